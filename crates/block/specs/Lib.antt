@@ -1,0 +1,9 @@
+pub mod Ballots
+pub mod Faults
+pub mod Words
+pub mod Messages
+pub mod Ranges
+pub mod Fits
+pub mod Verdicts
+pub mod Valid
+pub mod Laws
