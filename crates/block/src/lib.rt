@@ -23,3 +23,4 @@ pub use message::MessageDebug;
 pub use message::MessagePartialEq;
 pub use message::Report;
 pub use message::Value;
+pub use message::ValuePartialEq;

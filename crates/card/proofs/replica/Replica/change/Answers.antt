@@ -1,0 +1,5 @@
+use Rattle.card.proofs.Same.{same-replica}
+use Rattle.card.proofs.replica.Replica.change.Needs as need
+
+pub returns : need.returns
+returns c = same-replica _ _ _ _ _ _

@@ -1,0 +1,12 @@
+pub mod Groups
+pub mod Refusals
+pub mod Tables
+pub mod Making
+pub mod Steps
+pub mod Messages
+pub mod Proposing
+pub mod Settling
+pub mod Taking
+pub mod Checks
+pub mod Delivering
+pub mod Examples

@@ -1,0 +1,10 @@
+pub mod Outcomes
+pub mod Operations
+pub mod Rules
+pub mod Cells
+pub mod Catalogues
+pub mod Pools
+pub mod Listing
+pub mod Onces
+pub mod Meanings
+pub mod OneRules

@@ -1,0 +1,36 @@
+// State machines that answer commands. What each one means is a rule in specs/, and each is proved to follow its rule.
+mod alike;
+mod catalogue;
+mod list;
+mod once;
+mod operation;
+mod outcome;
+mod pool;
+mod rule;
+mod runs;
+mod table;
+
+pub use alike::answer_alike;
+pub use alike::makes_alike;
+pub use alike::once_alike;
+pub use list::ListCatalogue;
+pub use list::ListMachine;
+pub use list::ListPlain;
+pub use once::Once;
+pub use once::layer::OnceMachine;
+pub use operation::Operation;
+pub use operation::OperationDebug;
+pub use operation::OperationPartialEq;
+pub use outcome::Outcome;
+pub use outcome::OutcomeDebug;
+pub use outcome::OutcomePartialEq;
+pub use pool::PoolMachine;
+pub use pool::PoolPlain;
+pub use pool::SparePool;
+pub use rule::Machine;
+pub use rule::Plain;
+pub use runs::answer_all;
+pub use runs::run_all;
+pub use table::TableCatalogue;
+pub use table::TableMachine;
+pub use table::TablePlain;
