@@ -2,6 +2,7 @@
 mod checks;
 mod deliver;
 mod examples;
+mod fitted;
 mod make;
 mod messages;
 mod propose;
@@ -12,6 +13,7 @@ mod table;
 mod takeover;
 
 pub use examples::examples_hold;
+pub use fitted::Card;
 pub use refusal::Refusal;
 pub use refusal::RefusalFromFault;
 pub use replica::Replica;
