@@ -7,14 +7,17 @@ use Rattle.std.specs.Orderings.{Decides}
 use Rattle.command.specs.declared.Command.{Command}
 use Rattle.machine.specs.Onces.{once}
 use Rattle.machine.specs.Rules.{Rule, Pair, answers}
-use Rattle.machine.specs.OneRules.{OneRule, Itself, Layered}
+use Rattle.machine.specs.OneRules.{OneRule, AnswerAlike, Itself, Layered}
 
 -- they answer equal pairs at equal places
-pub one-answers : {R S : Rule} (one : OneRule R S) (s : R .State) (t : S .State) (cs : List Command) → one .to s ≡ t → answers R s cs ≡ answers S t cs
+one-answers : {R S : Rule} (one : OneRule R S) (s : R .State) (t : S .State) (cs : List Command) → one .to s ≡ t → answers R s cs ≡ answers S t cs
 one-answers one s t [] e = refl
 one-answers {R} {S} one s t (c ∷ cs) e =
     ap (λ x. x ∷ answers R (R .next s c) cs) (one .answer s c ∙ ap (λ u. S .answer u c) e)
     ∙ ap (λ xs. S .answer t c ∷ xs) (one-answers one (R .next s c) (S .next t c) cs (one .next s c ∙ ap (λ u. S .next u c) e))
+
+pub answer-alike : (R S : Rule) → AnswerAlike R S
+answer-alike R S s t cs o = one-answers (o .rules) s t cs (o .states)
 
 -- two lists are equal, which P says, exactly where what was compared is alike and what is left of them is equal
 abbrev pub SoFar : Bool → List Pair → List Pair → Type 0 → Type 0

@@ -7,7 +7,7 @@ ghost use Rattle.std.specs.Vec.{made};
 ghost use Rattle.machine.specs.contracts.list.ListMachine.the-impl.{ghosts as list};
 ghost use Rattle.machine.specs.contracts.table.TableMachine.the-impl.{ghosts as table};
 ghost use Rattle.machine.specs.Catalogues.{catalogue};
-ghost use Rattle.machine.specs.OneRules.{OneRule, OneState, AnswerAlike, Itself, Layered};
+ghost use Rattle.machine.specs.OneRules.{OneRule, AnswerAlike, Itself, Layered};
 ghost use Rattle.machine.specs.Onces.{once};
 ghost use Rattle.machine.specs.Rules.{run, answers};
 use crate::list::ListCatalogue;
@@ -33,6 +33,8 @@ pub fn answer_alike<M: Machine, N: Machine>(
     ensures told { λ r. ⌜ Decides r (answers (M·Machine .rule) (M·Machine .means (now (one .entry))) (now (commands .entry)) ≡ answers (N·Machine .rule) (N·Machine .means (now (other .entry))) (now (commands .entry))) ⌝ }
     ensures law { λ _. ⌜ AnswerAlike (M·Machine .rule) (N·Machine .rule) ⌝ }
     ensures itself { λ _. ⌜ Itself (M·Machine .rule) ⌝ }
+    ensures layered { λ _. ⌜ Layered (M·Machine .rule) (N·Machine .rule) ⌝ }
+    ensures layers { λ _. ⌜ AnswerAlike (once (M·Machine .rule)) (once (N·Machine .rule)) ⌝ }
 {
     let mut alike = true;
     for command in commands {
@@ -49,8 +51,6 @@ pub fn once_alike<M: Machine + Drop, N: Machine + Drop>(
     commands: &[Command],
 ) -> Result<bool, AllocError>
     ensures told { λ r. ⌜ made r (λ b. Decides b (answers (once (M·Machine .rule)) (M·Machine .means one, []) (now (commands .entry)) ≡ answers (once (N·Machine .rule)) (N·Machine .means other, []) (now (commands .entry)))) ⌝ }
-    ensures law { λ r. ⌜ (OneState (M·Machine .rule) (N·Machine .rule) (M·Machine .means one) (N·Machine .means other) → made r (λ b. b ≡ true)) ⌝ }
-    ensures layered { λ _. ⌜ Layered (M·Machine .rule) (N·Machine .rule) ⌝ }
 {
     let mut one = Once::new(heap, one)?;
     let mut other = Once::new(heap, other)?;

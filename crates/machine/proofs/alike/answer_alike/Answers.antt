@@ -2,9 +2,10 @@ use mathlib.Core.Path.{_≡_, sym, _∙_}
 use native.Mathlib.Omega.{arith}
 use Rattle.std.specs.Orderings.{Decides}
 use Rattle.std.proofs.shelf.Lists.{at-drop-all}
+use Rattle.machine.specs.Onces.{once}
 use Rattle.machine.specs.Rules.{run, answers}
 use Rattle.machine.proofs.Running.{run-more, answers-more}
-use Rattle.machine.proofs.Alikes.{one-answers, itself, so-far-more}
+use Rattle.machine.proofs.Alikes.{answer-alike, itself, layered, so-far-more}
 use Rattle.machine.proofs.alike.answer_alike.Needs as need
 
 pub loop-command-again : need.loop-command-again
@@ -37,6 +38,8 @@ returns g c =
       one = sym (at-drop-all (run (m .rule) (m .means (c .loop-command .one))) cs i left) ∙ c .loop-command .inv .0;
       other = sym (at-drop-all (run (n .rule) (n .means (c .loop-command .other))) cs i left) ∙ c .loop-command .inv .1;
       told = (λ h. so-far .0 h (one-none ∙ sym other-none), λ e. so-far .1 e .0);
-      law = λ s t cs o. one-answers (o .rules) s t cs (o .states);
-      itself = λ s. itself (m .rule) s;
+      law = answer-alike (m .rule) (n .rule);
+      itself = itself (m .rule);
+      layered = layered (m .rule) (n .rule);
+      layers = answer-alike (once (m .rule)) (once (n .rule));
     }

@@ -1,0 +1,10 @@
+pub mod Quorums
+pub mod Induction
+pub mod Lists
+pub mod Ballots
+pub mod Compatibility
+pub mod Walks
+pub mod Entries
+pub mod Support
+pub mod Histories
+pub mod Example

@@ -1,0 +1,12 @@
+pub mod Scanning
+pub mod Settling
+pub mod Choosing
+pub mod Balloting
+pub mod Counting
+pub mod Placing
+pub mod Turning
+pub mod Hearing
+pub mod Taking
+pub mod Delivered
+pub mod Called
+pub mod Beginning

@@ -1,0 +1,14 @@
+pub mod Invariant
+pub mod Frame
+pub mod Acts
+pub mod Answering
+pub mod Deciding
+pub mod Settling
+pub mod Promising
+pub mod Taking
+pub mod Moves
+pub mod Safe
+pub mod Cards
+pub mod Running
+pub mod Placed
+pub mod Example
