@@ -24,7 +24,7 @@ none-past x zero c = refl
 none-past x (suc n) zero = refl
 none-past x (suc n) (suc c) = none-past x n c
 
-seated : {X : Type 0} (n : ℕ) (x : X) → Seated n x (replicate 7 x)
+pub seated : {X : Type 0} (n : ℕ) (x : X) → Seated n x (replicate 7 x)
 seated n x = record { seven = refl; group = λ c h. none-past x 7 c }
 
 empty-stands : (n : ℕ) → Standing-entry n empty
@@ -34,6 +34,7 @@ empty-stands n =
       accepts = seated n false;
       low = λ d g. absurd (let e = none-past Unheard 7 (g .0) in grind arith);
       dependency = omega arith;
+      untallied = λ e c. none-past Unheard 7 c;
       bare = λ e. refl;
       votes = λ c d o e. absurd (grind arith);
     }
@@ -44,7 +45,7 @@ either x d zero k = inr refl
 either x d (suc n) zero = inl refl
 either x d (suc n) (suc k) = either x d n k
 
-empty-new : New (cellOf empty)
+pub empty-new : New (cellOf empty)
 empty-new =
     record {
       bare = refl;

@@ -58,7 +58,7 @@ deliveries-turn f r s S m valid sent mine peer x q =
     (delivers f r (s .size) (s .some-fail) (s .few) (s .seat) (s .stands) S m valid sent mine peer)
 
 -- an entry that is not taken is empty and promised nothing
-untaken : (e : Entry) → isTaken e ≡ false → (e .state ≡ Empty) × (e .promised ≡ 0)
+pub untaken : (e : Entry) → isTaken e ≡ false → (e .state ≡ Empty) × (e .promised ≡ 0)
 untaken e t = (by (e .state) (left (isHeld (e .state)) t), zero-promise)
   where
     left : (b : Bool) → (b || ltb 0 (e .promised)) ≡ false → b ≡ false
@@ -73,6 +73,9 @@ untaken e t = (by (e .state) (left (isHeld (e .state)) t), zero-promise)
 
     zero-promise : e .promised ≡ 0
     zero-promise = grind (arith, tells)
+
+pub placed-parts : (log i : ℕ) → isPlaced log i ≡ true → (log ≤ 1) × (1 ≤ i) × (i ≤ 128)
+placed-parts log i p = (grind (arith, tells), grind (arith, tells), grind (arith, tells))
 
 module _ (f : ℕ) (r : Replica) (s : Seated-card f r) (S : List column.Message) where
   proposed : (c : Command) → (r .seat ≤ 1) → highestTaken r (r .seat) < 128
@@ -115,9 +118,6 @@ module _ (f : ℕ) (r : Replica) (s : Seated-card f r) (S : List column.Message)
       go false false pb false pd w =
           same-ok (λ x. Takes-turn f S r (logNamed (r .seat)) (nextEntry r) x) _ x w (proposed c (grind (arith, tells)) (grind (arith, tells)))
 
-  placed : (log i : ℕ) → isPlaced log i ≡ true → (log ≤ 1) × (1 ≤ i) × (i ≤ 128)
-  placed log i p = (grind (arith, tells), grind (arith, tells), grind (arith, tells))
-
   pub settlings : (log i : ℕ) (x : Replica × Option Message) → settle r log i ≡ Ok x → Takes-turn f S r (logNamed log) i x
   settlings log i x q =
       go (isPlaced log i) refl (eqb log (r .seat) && countsAnswers (entryAt r log i)) refl (canSettle (r .n) (entryAt r log i)) refl q
@@ -131,7 +131,7 @@ module _ (f : ℕ) (r : Replica) (s : Seated-card f r) (S : List column.Message)
       go true pa false pb d pd w = absurd (grind arith)
       go true pa true pb false pd w = absurd (grind arith)
       go true pa true pb true pd w =
-          let p = placed log i pa in
+          let p = placed-parts log i pa in
           let e : Entry = entryAt r log i in
           let own = and-parts (eqb log (r .seat)) (countsAnswers e) pb in
           let open-e = and-parts (isOpen (e .state)) (eqb (e .promised) 0) (own .1) in
@@ -178,4 +178,4 @@ module _ (f : ℕ) (r : Replica) (s : Seated-card f r) (S : List column.Message)
       go true pa false pb true o po w = absurd (grind arith)
       go true pa false pb false None po w = absurd (grind arith)
       go true pa false pb false (Some b) po w =
-          same-ok (λ x. Takes-turn f S r (logNamed log) i x) _ x w (taken-over log i b (placed log i pa) pb po)
+          same-ok (λ x. Takes-turn f S r (logNamed log) i x) _ x w (taken-over log i b (placed-parts log i pa) pb po)

@@ -68,6 +68,30 @@ within-same p d Unheard own = refl
 within-same p d (Vote x) own = rw (own x refl)
 within-same p d (Reply x) own = refl
 
+-- one answer more keeps an entry standing
+pub noted-stands-at : (n : ℕ) → n ≤ 7 → (e : Entry) (from : ℕ) (a : Answer) → from < n → Standing-entry n e → e .state ≡ Answered
+    → ((d : ℕ) → (a ≡ Vote d) ⊎ (a ≡ Reply d) → d ≤ 128)
+    → ((d : ℕ) → a ≡ Vote d → d ≡ e .dependency)
+    → Standing-entry n (withAnswers e (set (e .tally .answers) from a))
+noted-stands-at n few e from a seat stands-e st fits own =
+    let xs : List Answer = e .tally .answers in
+    let inside : from < length xs = omega (arith, stands-e .answers .seven) in
+    record {
+      answers = seated-more n from Unheard a xs seat (stands-e .answers);
+      accepts = stands-e .accepts;
+      low = λ d w. elim (cases-eq (w .0) from) [
+        | inl same ↦ fits d (subst (λ v. (v ≡ Vote d) ⊎ (v ≡ Reply d)) (ap (λ k. getD (set xs from a) k Unheard) same ∙ getD-set-same xs from a Unheard inside) (w .1))
+        | inr ne ↦ stands-e .low d (w .0, subst (λ v. (v ≡ Vote d) ⊎ (v ≡ Reply d)) (getD-set-other xs from (w .0) a Unheard ne) (w .1))
+      ];
+      dependency = stands-e .dependency;
+      untallied = λ q. absurd (let z = st in grind arith);
+      bare = stands-e .bare;
+      votes = λ c d o q. elim (cases-eq c from) [
+        | inl same ↦ own d (sym (ap (λ k. getD (set xs from a) k Unheard) same ∙ getD-set-same xs from a Unheard inside) ∙ q)
+        | inr ne ↦ stands-e .votes c d o (sym (getD-set-other xs from c a Unheard ne) ∙ q)
+      ];
+    }
+
 module _ (n f s : ℕ) (size : n ≡ 2 * f + 1) (few : n ≤ 7) (r : Replica) (stands : Standing n s r) (S : List column.Message) (g : Log) (log i : ℕ)
     (named : numberOf g ≡ log) (low : 1 ≤ i) (high : i ≤ 128) (mine : s ≡ log) where
   abbrev e : Entry
@@ -134,29 +158,6 @@ module _ (n f s : ℕ) (size : n ≡ 2 * f + 1) (few : n ≤ 7) (r : Replica) (s
           ]
         ]
 
-  -- one answer more keeps an entry standing
-  noted-stands : (from : ℕ) (a : Answer) → from < n → Standing-entry n e → e .state ≡ Answered
-      → ((d : ℕ) → (a ≡ Vote d) ⊎ (a ≡ Reply d) → d ≤ 128)
-      → ((d : ℕ) → a ≡ Vote d → d ≡ e .dependency)
-      → Standing-entry n (withAnswers e (set (e .tally .answers) from a))
-  noted-stands from a seat stands-e st fits own =
-      let xs : List Answer = e .tally .answers in
-      let inside : from < length xs = omega (arith, stands-e .answers .seven) in
-      record {
-        answers = seated-more n from Unheard a xs seat (stands-e .answers);
-        accepts = stands-e .accepts;
-        low = λ d w. elim (cases-eq (w .0) from) [
-          | inl same ↦ fits d (subst (λ v. (v ≡ Vote d) ⊎ (v ≡ Reply d)) (ap (λ k. getD (set xs from a) k Unheard) same ∙ getD-set-same xs from a Unheard inside) (w .1))
-          | inr ne ↦ stands-e .low d (w .0, subst (λ v. (v ≡ Vote d) ⊎ (v ≡ Reply d)) (getD-set-other xs from (w .0) a Unheard ne) (w .1))
-        ];
-        dependency = stands-e .dependency;
-        bare = stands-e .bare;
-        votes = λ c d o q. elim (cases-eq c from) [
-          | inl same ↦ own d (sym (ap (λ k. getD (set xs from a) k Unheard) same ∙ getD-set-same xs from a Unheard inside) ∙ q)
-          | inr ne ↦ stands-e .votes c d o (sym (getD-set-other xs from c a Unheard ne) ∙ q)
-        ];
-      }
-
   -- an answer to the owner's proposal
   pub hears-answer : (from : ℕ) (a : Answer) → s < n → from < n → Standing-entry n e
       → ((d : ℕ) → (a ≡ Vote d) ⊎ (a ≡ Reply d) → d ≤ 128)
@@ -170,7 +171,7 @@ module _ (n f s : ℕ) (size : n ≡ 2 * f + 1) (few : n ≤ 7) (r : Replica) (s
             let counts = and-parts (countsAnswers e) (leb from 6 && not (isAnswer (getD (e .tally .answers) from Unheard))) q .0 in
             let st = open-only (e .state) (and-parts (isOpen (e .state)) (eqb (e .promised) 0) counts .0) in
             let pr : e .promised ≡ 0 = eqb-true (e .promised) 0 (and-parts (isOpen (e .state)) (eqb (e .promised) 0) counts .1) in
-            rw q (decides (withAnswers e (set (e .tally .answers) from a)) (noted-stands from a seat stands-e st fits own) st pr act seat-s)
+            rw q (decides (withAnswers e (set (e .tally .answers) from a)) (noted-stands-at n few e from a seat stands-e st fits own) st pr act seat-s)
         | inr q ↦ rw q (writes n f s r stands S g log i named low high e None none refl ([], once rests))
       ]
 

@@ -9,4 +9,10 @@ pub mod Hearing
 pub mod Taking
 pub mod Delivered
 pub mod Called
+pub mod Keeping
+pub mod Saying
+pub mod Proposed
+pub mod Grouping
+pub mod Calling
+pub mod Agreeing
 pub mod Beginning

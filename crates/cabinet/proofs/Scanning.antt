@@ -50,6 +50,14 @@ module _ {X : Type 0} (p : X → Bool) (d : X) where
   highest-above (x ∷ xs) zero e h = grind (arith, tells)
   highest-above (x ∷ xs) (suc j) e h = let ih = highest-above xs j in grind (arith, tells)
 
+highest-within : {X : Type 0} (p : X → Bool) (xs : List X) → highestOf p xs ≤ length xs
+highest-within p [] = omega arith
+highest-within p (x ∷ xs) = let ih = highest-within p xs in grind (arith, tells)
+
+-- no entry is above 128
+pub highest-held-low : (r : Replica) → Shaped r → (log : ℕ) → log ≤ 1 → highestHeld r log ≤ 128
+highest-held-low r shape log l = let w = highest-within (λ e. isHeld (e .state)) (logOf r log) in let n = shape log l in omega arith
+
 module _ (r : Replica) (shape : Shaped r) where
   -- a test that holds of entry k holds of the item in its place
   below : (p : Entry → Bool) (log k : ℕ) → log ≤ 1 → 1 ≤ k → k ≤ 128 → p (entryAt r log k) ≡ true → k ≤ highestOf p (logOf r log)

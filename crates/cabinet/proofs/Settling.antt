@@ -79,3 +79,8 @@ answers-settle n answers low enough =
       supported = grind (arith, tells, end);
       least = λ d g s. best-least answers n 128 answers d g (grind (arith, tells));
     }
+
+-- no dependency exceeds 128, nor does the settled one
+pub settled-low : (xs : List Answer) (n : ℕ) → settled xs n ≤ 128
+unfolding settled
+settled-low xs n = best-low xs n 128 xs

@@ -41,7 +41,7 @@ use Rattle.card.specs.Delivering as delivering
 use Rattle.cabinet.specs.Views.{numberOf, stageOf, contentOf, cellOf, cellAt, reportOf, takeoverOf, takeoverIn, bodyOf}
 use Rattle.cabinet.specs.Standing.{Standing, Standing-entry}
 use Rattle.cabinet.proofs.Scanning.{scans-find}
-use Rattle.cabinet.proofs.Placing.{number-low, number-other, cell-here, cell-written}
+use Rattle.cabinet.proofs.Placing.{number-low, number-other, cell-here, cell-written, cell-kept}
 
 -- what a card reports of an entry is what its cell reports
 pub report-same : (e : Entry) → reportOf (Some (entries.reportOf e)) ≡ report-of (cellOf e)
@@ -85,9 +85,17 @@ module _ (n f s : ℕ) (r : Replica) (stands : Standing n s r) (S : List column.
   abbrev pub Turned : Cell → Cell → maybe.Option column.Takeover → maybe.Option Body → Type 0
   Turned a b u body = (es : List Event) × Turn n f numberOf holderOf g i s S (cellAt r (other g)) a t b u body es
 
-  -- what a call comes to is a turn
+  -- every other entry stays as it was
+  abbrev pub Others : Replica → Type 0
+  Others x = (h : Log) (k : ℕ) → ((h ≡ g) × (k ≡ i) → ⊥) → cellAt x h k ≡ cellAt r h k
+
+  -- what a call comes to is a turn at the entry, and leaves the others
   abbrev pub Does : Replica × Option Message → Type 0
-  Does x = Turned (cellAt r g i) (cellAt (x .0) g i) (takeoverIn (x .0 .takeover)) (bodyOf (x .1))
+  Does x = Turned (cellAt r g i) (cellAt (x .0) g i) (takeoverIn (x .0 .takeover)) (bodyOf (x .1)) × Others (x .0)
+
+  others-written : (x : Entry) → Others (withEntry r log i x)
+  others-written x h k apart =
+      ap (λ l. cellAt (withEntry r l i x) h k) (sym named) ∙ cell-kept r (stands .logs) (stands .shape) g i low high x h k apart
 
   entry-cell : cellAt r g i ≡ cellOf e
   entry-cell = cell-here r g i low ∙ ap (λ l. cellOf (entryAt r l i)) named
@@ -101,17 +109,21 @@ module _ (n f s : ℕ) (r : Replica) (stands : Standing n s r) (S : List column.
   between a a' b b' u body body' p q w d = rw (p, q, w) d
 
   pub stays : (out : Option Message) (body : maybe.Option Body) → bodyOf out ≡ body → Turned (cellOf e) (cellOf e) t body → Does (r, out)
-  stays out body w d = between _ _ _ _ t _ body entry-cell entry-cell w d
+  stays out body w d = (between _ _ _ _ t _ body entry-cell entry-cell w d, λ h k apart. refl)
 
   pub writes : (x : Entry) (out : Option Message) (body : maybe.Option Body) → bodyOf out ≡ body → Turned (cellOf e) (cellOf x) t body
       → Does (withEntry r log i x, out)
-  writes x out body w d = between _ _ _ _ t _ body entry-cell (written-cell x) w d
+  writes x out body w d = (between _ _ _ _ t _ body entry-cell (written-cell x) w d, others-written x)
 
   -- a write to the entry and to the takeover
   pub writes-both : (x : Entry) (u : Takeover) (out : Option Message) (body : maybe.Option Body) → bodyOf out ≡ body
       → Turned (cellOf e) (cellOf x) (some (takeoverOf u)) body
       → Does (withTakeover (withEntry r log i x) (Some u), out)
-  writes-both x u out body w d = between _ _ _ _ (some (takeoverOf u)) _ body entry-cell (written-cell x) w d
+  writes-both x u out body w d = (between _ _ _ _ (some (takeoverOf u)) _ body entry-cell (written-cell x) w d, others-taken)
+    where
+      others-taken : Others (withTakeover (withEntry r log i x) (Some u))
+      others-taken h zero apart = refl
+      others-taken h (suc k) apart = others-written x h (suc k) apart
 
   pub rest : Does (r, None)
   rest = stays None none refl ([], once rests)

@@ -6,3 +6,5 @@ pub mod Views
 pub mod Standing
 pub mod Places
 pub mod Turns
+pub mod Groups
+pub mod Agreements

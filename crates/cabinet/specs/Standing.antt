@@ -29,7 +29,8 @@ pub record Standing-entry (n : ℕ) (e : Entry) : Type 0 where
   pub accepts : Seated n false (e .tally .accepts)
   pub low : Low (e .tally .answers)
   pub dependency : e .dependency ≤ 128
-  -- an empty entry was not answered
+  -- an empty entry was not answered, and nothing was counted for it
+  pub untallied : e .state ≡ Empty → (c : ℕ) → getD (e .tally .answers) c Unheard ≡ Unheard
   pub bare : e .state ≡ Empty → hasAnswered e ≡ false
   -- while answers count, a vote has the proposed dependency
   pub votes : (c d : ℕ) → isOpen (e .state) ≡ true → getD (e .tally .answers) c Unheard ≡ Vote d → d ≡ e .dependency

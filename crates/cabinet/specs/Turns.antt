@@ -31,12 +31,14 @@ pub record Seated-card (f : ℕ) (r : Replica) : Type 0 where
   pub seat : r .seat < r .n
   pub stands : Standing (r .n) (r .seat) r
 
--- where the messages S were sent, the card takes a turn at entry g.i and comes to another card, with a message or none
+-- where the messages S were sent, the card takes a turn at entry g.i and comes to another card, with a message or none; its other
+-- entries stay as they were
 abbrev pub Takes-turn : ℕ → List column.Message → Replica → Log → ℕ → Replica × Option Message → Type 0
 Takes-turn f S r g i x =
-    (es : List Event)
+    ((es : List Event)
     × Turn (r .n) f numberOf holderOf g i (r .seat) S (cellAt r (other g)) (cellAt r g i) (takeoverIn (r .takeover))
-    (cellAt (x .0) g i) (takeoverIn (x .0 .takeover)) (bodyOf (x .1)) es
+    (cellAt (x .0) g i) (takeoverIn (x .0 .takeover)) (bodyOf (x .1)) es)
+    × ((h : Log) (k : ℕ) → ((h ≡ g) × (k ≡ i) → ⊥) → cellAt (x .0) h k ≡ cellAt r h k)
 
 -- a delivery of a message that was sent, to its addressee from one that may send it
 abbrev pub Deliveries-turn : Type 0

@@ -4,7 +4,12 @@ ghost use Rattle.cabinet.specs.Choices.{Reports-choose};
 ghost use Rattle.cabinet.specs.Scans.{Scans-find};
 ghost use Rattle.cabinet.specs.Ballots.{Ballots-rise};
 ghost use Rattle.cabinet.specs.Turns.{Deliveries-turn, Proposals-turn, Settlings-turn, Takeovers-turn};
+ghost use Rattle.cabinet.specs.Agreements.{Groups-agree};
 ghost use Rattle.cabinet.specs.Places.{Cards-begin, Entries-keep-their-places, Seats-count};
+
+mod calls;
+
+pub use calls::Call;
 
 // A majority of the answers does not exceed the dependency that they settle on, and it is the smallest such answer.
 pub fn answers_settle()
@@ -59,4 +64,11 @@ pub fn settlings_turn()
 // So is a takeover.
 pub fn takeovers_turn()
     ensures { λ _. ⌜ Takeovers-turn ⌝ }
+{}
+
+// Whatever calls are made on the cards of a new group, in whatever order, with messages lost, late or repeated: no two cards hold an
+// entry committed with different commands or dependencies, now or at any two moments; of two commands in different logs one waits for
+// the other; and every committed command was proposed.
+pub fn groups_agree()
+    ensures { λ _. ⌜ Groups-agree ⌝ }
 {}
