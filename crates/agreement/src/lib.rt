@@ -1,4 +1,6 @@
 // The laws that agreement rests on. Each function does nothing, and its contract is one law.
+#![tactic(auto)]
+
 ghost use Rattle.agreement.specs.Quorums.{QuorumsOverlap};
 ghost use Rattle.agreement.specs.Compatibility.{OneWaits};
 ghost use Rattle.agreement.specs.Walks.{WalksAgree, WalksMerge, FirstsAgree, FirstsDistinct};

@@ -1,4 +1,6 @@
 // The 512-byte block that cards exchange: fifteen big-endian words, then zeros.
+#![tactic(auto)]
+
 mod ballot;
 mod codec;
 mod fault;

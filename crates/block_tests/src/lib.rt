@@ -1,4 +1,6 @@
 // The reader and the writer against blocks that were written out byte by byte from the format alone.
+#![tactic(auto)]
+
 #[cfg(test)]
 mod tests {
     use block::{

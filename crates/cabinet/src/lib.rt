@@ -1,4 +1,6 @@
 // What the rules of one card mean, in words that need no fold and no scan: the laws that the agreement of a cabinet rests on.
+#![tactic(auto)]
+
 ghost use Rattle.cabinet.specs.Settlements.{AnswersSettle};
 ghost use Rattle.cabinet.specs.Choices.{ReportsChoose};
 ghost use Rattle.cabinet.specs.Scans.{ScansFind};

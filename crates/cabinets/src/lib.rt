@@ -1,4 +1,6 @@
 // A cabinet: a group of cards with machines of two makes, what calls on it come to, and what it promises.
+#![tactic(auto)]
+
 mod answer;
 mod cabinet;
 mod calling;

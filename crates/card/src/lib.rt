@@ -1,4 +1,6 @@
 // One card of a group: its table of entries, and the calls that order commands in it.
+#![tactic(auto)]
+
 mod checks;
 mod deliver;
 mod examples;

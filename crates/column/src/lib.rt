@@ -1,4 +1,6 @@
 // The cards of a group never disagree. Each function does nothing, and its contract is one law.
+#![tactic(auto)]
+
 ghost use Rattle.column.specs.Safe.{GroupSafe, SomeCommits};
 ghost use Rattle.column.specs.Running.{GoesOn};
 ghost use Rattle.column.specs.Cards.{CardsSafe};

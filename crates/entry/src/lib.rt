@@ -1,4 +1,6 @@
 // One entry on one card, and one takeover of an entry: what each rule makes of them.
+#![tactic(auto)]
+
 mod accepts;
 mod answers;
 mod ballot;

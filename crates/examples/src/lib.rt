@@ -1,4 +1,6 @@
 // The rules at work.
+#![tactic(auto)]
+
 ghost use Rattle.std.specs.Prelude.{◌≡◌, true};
 ghost use Rattle.examples.specs.Examples.{all_pass, examples};
 

@@ -1,4 +1,6 @@
 // Whole blocks from an input that comes in pieces.
+#![tactic(auto)]
+
 ghost use Rattle.std.specs.Prelude.{◌≤◌, IfOk};
 
 use std::io;

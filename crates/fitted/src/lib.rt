@@ -1,4 +1,6 @@
 // A card fitted with a machine: the ordering calls of its replica, and run, which applies what was agreed.
+#![tactic(auto)]
+
 mod card;
 mod make;
 mod ordering;

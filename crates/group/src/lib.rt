@@ -1,4 +1,6 @@
 // What the rules of one card mean, in words that need no fold and no scan: the laws that the agreement of a cabinet rests on.
+#![tactic(auto)]
+
 ghost use Rattle.group.specs.Settlements.{AnswersSettle};
 ghost use Rattle.group.specs.Choices.{ReportsChoose};
 ghost use Rattle.group.specs.Scans.{ScansFind};

@@ -1,4 +1,6 @@
 // State machines that answer commands. What each one means is a rule in specs/, and each is proved to follow its rule.
+#![tactic(auto)]
+
 mod alike;
 mod catalogue;
 mod list;

@@ -1,4 +1,6 @@
 // Counting and searching in a list, by a test. Each is proved once, for every type and every test.
+#![tactic(auto)]
+
 mod scans;
 mod test;
 

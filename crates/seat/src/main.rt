@@ -1,4 +1,6 @@
 // Plays seat 2 of three: delivers each block from standard input, and writes a block for each message that is sent.
+#![tactic(auto)]
+
 mod reply;
 
 use card::Replica;

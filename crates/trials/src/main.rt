@@ -1,4 +1,6 @@
 // The worked examples that are run: each with what was expected and what came, and at the end how many came as expected.
+#![tactic(auto)]
+
 mod cards;
 mod machines;
 mod score;
