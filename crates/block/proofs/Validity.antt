@@ -1,5 +1,5 @@
 -- A message that passes is valid.
-use Rattle.std.proofs.Common.{◌≡◌, ℕ, ◌<◌, true, ◌||◌, eqb, leb, get_or, None, arith, lit<}
+use Rattle.std.proofs.Common.{◌≡◌, ℕ, ◌<◌, ◌≤◌, true, ◌||◌, ◌&&◌, eqb, leb, get_or, None, arith, lit<}
 use Rattle.std.proofs.lemmas.Bool.Decides.{nat_tests}
 use Rattle.block.specs.declared.message.Destination.{Destination}
 use Rattle.block.specs.declared.message.Destination.TheVariants.{All, Seat}
@@ -25,23 +25,26 @@ identified Nothing c n = tt
 identified Noop c n = tt
 identified (Command x) c n = (grind (arith, nat_tests), grind (arith, nat_tests))
 
+at_most : (n k : ℕ) → leb n k ≡ true → n ≤ k
+at_most n k h = grind (arith, nat_tests)
+
+from_to : (l n k : ℕ) → (leb l n && leb n k) ≡ true → (l ≤ n) × (n ≤ k)
+from_to l n k h = (grind (arith, nat_tests), grind (arith, nat_tests))
+
 pub valid : (m : Message) → range_fault (message_words m) ≡ None → misfit_fault (message_words m) ≡ None → Valid m
 unfolding message_words
 valid m range fit =
     let at : (k : ℕ) → k < 15 → in_range k (get_or (message_words m) k 0) ≡ true = ranges_all (message_words m) range in
     let ok : (k : ℕ) → k < 15 → fits (message_words m) k ≡ true = fits_all (message_words m) fit in
-    let entry = at 4 (lit< tt) in
-    let from = at 1 (lit< tt) in
-    let log = at 3 (lit< tt) in
-    let dependency = at 12 (lit< tt) in
+    let entry = from_to 1 m.entry 128 (at 4 (lit< tt)) in
     record {
-      from = grind (arith, nat_tests, from);
+      from = at_most m.from 6 (at 1 (lit< tt));
       to = reachable m.to (at 2 (lit< tt));
-      log = grind (arith, nat_tests, log);
-      entry_from_one = grind (arith, nat_tests, entry);
-      entry_to_last = grind (arith, nat_tests, entry);
+      log = at_most m.log 1 (at 3 (lit< tt));
+      entry_from_one = entry.0;
+      entry_to_last = entry.1;
       ballot = at 5 (lit< tt);
-      dependency = grind (arith, nat_tests, dependency);
+      dependency = at_most m.dependency 128 (at 12 (lit< tt));
       accept_ballot = at 14 (lit< tt);
       fits_to = rw (kind_there m.kind) at (ok 2 (lit< tt));
       fits_ballot = rw (kind_there m.kind) at (ok 5 (lit< tt));

@@ -9,8 +9,8 @@ use std::alloc::{AllocError, Global};
 
 // Applies the commands in turn.
 pub fn run_all<M: Machine>(machine: &mut M, commands: &[Command])
-    ensures after { means machine.new ≡ run rule (means machine.old) commands.now }
-    ensures bays { rule.bays (means machine.new) ≡ rule.bays (means machine.old) }
+    ensures after { M.means machine.new ≡ run M.rule (M.means machine.old) commands.now }
+    ensures bays { M.rule.bays (M.means machine.new) ≡ M.rule.bays (M.means machine.old) }
 {
     for command in commands {
         machine.apply(*command);
@@ -23,8 +23,8 @@ pub fn answer_all<M: Machine>(
     machine: &mut M,
     commands: &[Command],
 ) -> Result<Vec<(Outcome, u32)>, AllocError>
-    ensures after { MatchResult result (λ _. means machine.new ≡ run rule (means machine.old) commands.now) (λ _. machine.new ≡ machine.old) }
-    ensures answers { MatchResult result (λ v. v.items ≡ answers rule (means machine.old) commands.now) (λ _. machine.new ≡ machine.old) }
+    ensures after { MatchResult result (λ _. M.means machine.new ≡ run M.rule (M.means machine.old) commands.now) (λ _. machine.new ≡ machine.old) }
+    ensures answers { MatchResult result (λ v. v.items ≡ answers M.rule (M.means machine.old) commands.now) (λ _. machine.new ≡ machine.old) }
 {
     let mut pairs = Vec::with_capacity(heap, commands.len())?;
     for command in commands {

@@ -8,11 +8,11 @@ loop-place-init c = lowest_none (fits c.args.words.now)
 
 pub loop-place-preserved : goal.loop-place-preserved
 loop-place-preserved c =
-    lowest_more (fits c.args.words.now) c.loop-place.place c.loop-place.invariant (sym c.if-not-word-fits.ensures)
+    lowest_more (fits c.args.words.now) c.loop-place.place c.loop-place.invariant (sym c.if-not-word_fits.ensures)
 
-pub returns-then-not-word-fits : goal.returns-then-not-word-fits
-returns-then-not-word-fits c =
-    rw (misfit_fails c.args.words.now c.loop-place.place c.loop-place.invariant (sym c.if-not-word-fits.ensures) (omega arith))
+pub returns-then-not-word_fits : goal.returns-then-not-word_fits
+returns-then-not-word_fits c =
+    rw (misfit_fails c.args.words.now c.loop-place.place c.loop-place.invariant (sym c.if-not-word_fits.ensures) (omega arith))
 
 pub returns : goal.returns
 returns c = rw (misfit_passes c.args.words.now c.loop-place.place c.loop-place.invariant (omega arith))

@@ -9,11 +9,11 @@ loop-place-init c = lowest_none (λ k. in_range k (get_or c.args.words.now k 0))
 pub loop-place-preserved : goal.loop-place-preserved
 loop-place-preserved c =
     lowest_more (λ k. in_range k (get_or c.args.words.now k 0)) c.loop-place.place c.loop-place.invariant
-    (sym c.if-not-in-range.ensures)
+    (sym c.if-not-in_range.ensures)
 
-pub returns-then-not-in-range : goal.returns-then-not-in-range
-returns-then-not-in-range c =
-    rw (range_fails c.args.words.now c.loop-place.place c.loop-place.invariant (sym c.if-not-in-range.ensures) (omega arith))
+pub returns-then-not-in_range : goal.returns-then-not-in_range
+returns-then-not-in_range c =
+    rw (range_fails c.args.words.now c.loop-place.place c.loop-place.invariant (sym c.if-not-in_range.ensures) (omega arith))
 
 pub returns : goal.returns
 returns c = rw (range_passes c.args.words.now c.loop-place.place c.loop-place.invariant (omega arith))

@@ -7,5 +7,5 @@ pub returns : goal.returns
 returns c =
     let i : ℕ = 4 * c.args.place in
     let k : (4 * c.args.place + 4) - 4 * c.args.place ≡ 4 = omega arith in
-    let s : c.copy-from-slice.new.self ≡ word_bytes c.args.word = cc in
+    let s : c.copy_from_slice.new.self ≡ word_bytes c.args.word = cc in
     rw (k, s, drop-drop 4 (4 * c.args.place) c.args.buffer.now)

@@ -10,7 +10,7 @@ loop-place-init c = c.fill.ensures.after (λ y h. h) ∙ ap (λ n. replicate n 0
 
 pub loop-place-preserved : goal.loop-place-preserved
 loop-place-preserved c =
-    c.put-word.ensures ∙ put_more c.args.words.now c.loop-place.buffer c.loop-place.place (omega arith) (omega arith) c.loop-place.invariant
+    c.put_word.ensures ∙ put_more c.args.words.now c.loop-place.buffer c.loop-place.place (omega arith) (omega arith) c.loop-place.invariant
 
 written : (c : goal.After-loop-place) → c.loop-place.buffer ≡ block_of c.args.words.now
 unfolding block_of

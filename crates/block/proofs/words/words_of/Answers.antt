@@ -8,7 +8,7 @@ pub loop-place-preserved : goal.loop-place-preserved
 loop-place-preserved c =
     let lt : c.loop-place.place < length c.loop-place.words = omega arith in (
       search (rules, length-set),
-      rw c.word-at.ensures (fill_by_more (word_at c.args.block.now) c.loop-place.words c.loop-place.place 0 lt c.loop-place.invariant.1),
+      rw c.word_at.ensures (fill_by_more (word_at c.args.block.now) c.loop-place.words c.loop-place.place 0 lt c.loop-place.invariant.1),
     )
 
 pub returns : goal.returns

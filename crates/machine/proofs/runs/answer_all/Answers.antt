@@ -4,8 +4,8 @@ use Rattle.machine.specs.Rules.{run, answers}
 use Rattle.machine.proofs.Running.{run_more, pushed_more}
 use Rattle.machine.proofs.runs.answer_all.Goals as goal
 
-pub push-reserved-requires : goal.push-reserved-requires
-push-reserved-requires g c = omega arith
+pub push_reserved-requires : goal.push_reserved-requires
+push_reserved-requires g c = omega arith
 
 pub loop-command-preserved : goal.loop-command-preserved
 loop-command-preserved g c =
@@ -19,7 +19,7 @@ loop-command-preserved g c =
       omega arith,
       omega arith,
       run_more m.rule before after cs i _ within went ∙ c.loop-command.invariant.2,
-      pushed_more m.rule before after cs i _ (vec_items c.loop-command.pairs) (vec_items c.push-reserved.new.self) c.apply.result within went c.apply.ensures.answer c.push-reserved.ensures.items ∙ c.loop-command.invariant.3,
+      pushed_more m.rule before after cs i _ (vec_items c.loop-command.pairs) (vec_items c.push_reserved.new.self) c.apply.result within went c.apply.ensures.answer c.push_reserved.ensures.items ∙ c.loop-command.invariant.3,
     )
 
 pub returns : goal.returns

@@ -4,4 +4,4 @@ use Rattle.machine.proofs.Listed.{tabled_first}
 use Rattle.machine.proofs.list.ListCatalogue.new.Goals as goal
 
 pub returns : goal.returns
-returns c = ap tabled c.in-ok-pairs.ensures.items ∙ tabled_first
+returns c = ap tabled c.in_ok-pairs.ensures.items ∙ tabled_first
