@@ -2,14 +2,14 @@ use Rattle.std.proofs.Common.{rules}
 use Rattle.entry.specs.Reports.{choice}
 use Rattle.entry.proofs.reports.choose.Goals as goal
 
-pub returns-then-is-some : goal.returns-then-is-some
+pub returns-then-is_some : goal.returns-then-is_some
 unfolding choice
-returns-then-is-some c = search rules
+returns-then-is_some c = search rules
 
-pub returns-then-may-be-committed : goal.returns-then-may-be-committed
+pub returns-then-may_be_committed : goal.returns-then-may_be_committed
 unfolding choice
-returns-then-may-be-committed c = search rules
+returns-then-may_be_committed c = search rules
 
-pub returns-else-may-be-committed : goal.returns-else-may-be-committed
+pub returns-else-may_be_committed : goal.returns-else-may_be_committed
 unfolding choice
-returns-else-may-be-committed c = search rules
+returns-else-may_be_committed c = search rules

@@ -6,9 +6,9 @@ pub returns-in-default : goal.returns-in-default
 unfolding reports
 returns-in-default c = search rules
 
-pub returns-then-not-is-live : goal.returns-then-not-is-live
+pub returns-then-not-is_live : goal.returns-then-not-is_live
 unfolding reports
-returns-then-not-is-live c = search rules
+returns-then-not-is_live c = search rules
 
 pub returns : goal.returns
 unfolding reports

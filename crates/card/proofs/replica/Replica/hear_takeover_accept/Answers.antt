@@ -6,9 +6,9 @@ pub returns-in-default : goal.returns-in-default
 unfolding acknowledges_takeover
 returns-in-default c = search rules
 
-pub returns-then-not-is-live : goal.returns-then-not-is-live
+pub returns-then-not-is_live : goal.returns-then-not-is_live
 unfolding acknowledges_takeover
-returns-then-not-is-live c = search rules
+returns-then-not-is_live c = search rules
 
 pub returns : goal.returns
 unfolding acknowledges_takeover
