@@ -1,5 +1,5 @@
 -- Two majorities share a seat, and that seat's answers decide.
-use Rattle.std.proofs.Common.{◌≤◌, inl, inr, arith}
+use Rattle.std.proofs.Common.{inl, inr, arith}
 use Rattle.agreement.specs.Compatibility.{OneWaitsLaw, OneWaits, given}
 use Rattle.agreement.proofs.Quorums.{quorums_overlap}
 

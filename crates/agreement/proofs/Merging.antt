@@ -1,9 +1,8 @@
 -- The order of two commands in a walk's list is told by what is committed alone.
-use Rattle.std.proofs.Common.{◌≡◌, ℕ, suc, ◌<◌, ◌≤◌, ◌⊎◌, ◌↔◌, List, [], ◌∷◌, ◌++◌, sym, refl, ◌∙◌, subst, inl, inr, arith}
-use Rattle.std.proofs.lemmas.Bool.{cases_lt, cases_eq}
+use Rattle.std.proofs.Common.{◌≡◌, ℕ, suc, ◌<◌, ◌≤◌, ◌⊎◌, ◌↔◌, List, [], ◌∷◌, ◌++◌, sym, subst, inl, inr, arith}
 use Rattle.command.specs.declared.Command.{Command}
 use Rattle.agreement.specs.Lists.{In, Before}
-use Rattle.agreement.specs.Logs.{Log, Log.pilot, Log.copilot, Committed, Content.content, Single, Value.noop, Value.command, Holds, Compatible}
+use Rattle.agreement.specs.Logs.{Log.pilot, Log.copilot, Committed, Content.content, Single, Value.noop, Value.command, Holds, Compatible}
 use Rattle.agreement.specs.Walks.{written, Step, Step.step, Walk, Walk.start, Walk.skip_pilot, Walk.skip_copilot, Walk.run_pilot, Walk.run_copilot, Clears, WalksMergeLaw, WalksMerge}
 use Rattle.agreement.proofs.Lists.{in_left, in_last, in_cases}
 use Rattle.agreement.proofs.Walks.{upto}

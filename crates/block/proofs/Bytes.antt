@@ -2,7 +2,7 @@
 use Rattle.std.proofs.Common.{◌≡◌, ℕ, ◌+◌, ◌-◌, ◌*◌, ◌/◌, ◌%◌, ◌^◌, ◌<◌, ◌≤◌, List, [], ◌∷◌, ◌++◌, length, get_or, take, drop, replicate, sym, refl, ap, ◌∙◌, arith}
 use Rattle.std.specs.List.{flat_map}
 use Rattle.std.proofs.lemmas.List.{drop_more, length-append, length-take-le, take_at, drop_at, drop-drop, drop-replicate, flat_map_more, take_more, append_assoc}
-use Rattle.block.specs.Words.{word_at, word_bytes}
+use Rattle.block.specs.Words.{word_bytes}
 
 -- four bytes, as a word, have those bytes
 pub bytes_of_word : (a b c d : ℕ) → a < 256 → b < 256 → c < 256 → d < 256

@@ -1,9 +1,9 @@
 -- A message written and read back, and a block read and written back.
-use Rattle.std.proofs.Common.{◌≡◌, ℕ, ◌^◌, ◌<◌, Bool, true, false, cond, eqb, List, length, get_or, drop, Some, None, Ok, Option, sym, refl, ap, ◌∙◌, arith}
+use Rattle.std.proofs.Common.{◌≡◌, ℕ, ◌<◌, Bool, true, false, cond, eqb, List, length, get_or, drop, Some, None, Ok, Option, refl, ap, ◌∙◌, arith}
 use Rattle.std.proofs.lemmas.List.FromFn.{length-map-range_with_len}
 use Rattle.std.proofs.lemmas.Bool.Decides.{nat_tests}
 use Rattle.block.specs.declared.fault.Fault.{Fault}
-use Rattle.block.specs.declared.fault.Fault.TheVariants.{Length, Range}
+use Rattle.block.specs.declared.fault.Fault.TheVariants.{Length}
 use Rattle.block.specs.declared.message.Message.{Message}
 use Rattle.block.specs.Words.{word_at, words_of, block_of}
 use Rattle.block.specs.Messages.{message_of, message_words}

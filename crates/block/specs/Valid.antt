@@ -1,5 +1,5 @@
 -- What holds of every message that a reader hands out: the range of each field, and how the fields go together.
-use Rattle.std.specs.Prelude.{◌≡◌, ℕ, ◌<◌, ◌≤◌, true}
+use Rattle.std.specs.Prelude.{◌≡◌, ◌<◌, ◌≤◌, true}
 use Rattle.block.specs.declared.message.Destination.{Destination}
 use Rattle.block.specs.declared.message.Destination.TheVariants.{All, Seat}
 use Rattle.block.specs.declared.message.Value.{Value}

@@ -1,7 +1,6 @@
 // What a client asks of the record, and by what it is told from every other request.
 #![tactic(auto)]
 
-
 // Who asked, and which of that client's requests it is. No two commands of one client share a number.
 #[derive(Clone, Copy, PartialEq, Eq, Debug)]
 pub struct Identity {

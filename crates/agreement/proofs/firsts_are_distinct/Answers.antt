@@ -1,4 +1,4 @@
-use Rattle.std.proofs.Common.{◌≡◌, eqb, [], refl}
+use Rattle.std.proofs.Common.{eqb, [], refl}
 use Rattle.std.proofs.lemmas.Bool.{and_parts, and_from, eqb-true, eq-eqb}
 use Rattle.agreement.specs.Walks.{same_identity, identity_of}
 use Rattle.agreement.proofs.Lists.{firsts_distinct}

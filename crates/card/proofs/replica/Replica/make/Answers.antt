@@ -5,4 +5,4 @@ use Rattle.card.proofs.replica.Replica.make.Goals as goal
 
 pub returns : goal.returns
 returns c =
-    (sym c.if-not-is-group.ensures, rw c.empty-logs.ensures (same_replica _ _ _ _ _ _))
+    (sym c.if-not-is_group.ensures, rw c.empty_logs.ensures (same_replica _ _ _ _ _ _))
