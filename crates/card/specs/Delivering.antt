@@ -1,5 +1,5 @@
 -- What a card makes of a block.
-use Rattle.std.specs.Prelude.{ℕ, ◌-◌, Bool, true, false, cond, not, ◌&&◌, List, Some, None, Ok, Err, Option, Result, ◌==◌, nat_le, nat_lt}
+use Rattle.std.specs.Prelude.{ℕ, ◌-◌, Bool, true, false, cond, ◌&&◌, List, Some, None, Ok, Err, Option, Result, ◌==◌, nat_le, nat_lt}
 use Rattle.command.specs.declared.Command.{Command}
 use Rattle.block.specs.declared.fault.Fault.{Fault}
 use Rattle.block.specs.declared.message.Destination.TheVariants.{Seat}

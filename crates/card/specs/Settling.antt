@@ -1,5 +1,5 @@
 -- The owner settles on a dependency without waiting for more answers.
-use Rattle.std.specs.Prelude.{ℕ, Bool, cond, not, ◌&&◌, Ok, Err, ◌==◌}
+use Rattle.std.specs.Prelude.{ℕ, cond, not, ◌&&◌, Ok, Err, ◌==◌}
 use Rattle.entry.specs.declared.entry.Progress.TheVariants.{Accepts}
 use Rattle.entry.specs.Owners.{counts_answers, can_settle, settling}
 use Rattle.card.specs.declared.refusal.Refusal.TheVariants.{NoSuchEntry, NotOpen, TooFewAnswers}

@@ -6,8 +6,7 @@ use Rattle.command.specs.declared.Command.{Command}
 use Rattle.agreement.specs.Lists.{In}
 use Rattle.agreement.specs.Logs.{Log, Content.content, Value.command, other}
 use Rattle.agreement.specs.Histories.{Event.propose, Event.answer, Event.vote, Note, Note.note, May, Allowed.next}
-use Rattle.agreement.proofs.Support.{voted}
-use Rattle.column.specs.Cells.{Stage.empty, Stage.answered, Answer, Answer.agrees, Answer.differs, Cell, Gave, answering, tallying, heard, Takeover, Body.fast_accept, Body.fast_ok, Body.fast_reply, Message, Message.message, Puts}
+use Rattle.column.specs.Cells.{Stage.empty, Stage.answered, Answer, Answer.agrees, Answer.differs, Cell, Gave, answering, tallying, Takeover, Body.fast_accept, Body.fast_ok, Body.fast_reply, Message, Message.message, Puts}
 use Rattle.column.specs.Moves.{Highest, Unblocked}
 use Rattle.column.proofs.Acts.{Here, Keeps, leads_on}
 

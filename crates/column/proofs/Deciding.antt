@@ -5,8 +5,7 @@ use Rattle.agreement.specs.Quorums.{Seats, count}
 use Rattle.agreement.specs.Lists.{In}
 use Rattle.agreement.specs.Logs.{Log, Content}
 use Rattle.agreement.specs.Histories.{Event.accept, Event.fast_commit, Note, Note.note, decided_in, Allowed.next}
-use Rattle.agreement.proofs.Support.{voted}
-use Rattle.column.specs.Cells.{Stage.answered, Stage.accepted, Stage.committed, Answer, Answer.silent, Answer.agrees, Answer.differs, Cell, admitting, accepting, committing, agreed, heard, Takeover, Body.accept_at, Body.accept_ok, Body.committed_as, Body.reject, Message, Message.message, Puts}
+use Rattle.column.specs.Cells.{Stage.answered, Stage.accepted, Stage.committed, Answer, Answer.silent, Answer.agrees, Answer.differs, Cell, admitting, accepting, committing, agreed, Takeover, Body.accept_at, Body.accept_ok, Body.committed_as, Body.reject, Message, Message.message, Puts}
 use Rattle.column.proofs.Invariant.{Fits}
 use Rattle.column.proofs.Acts.{Here, Keeps, leads_on}
 

@@ -1,5 +1,5 @@
 -- One entry on one card.
-use Rattle.std.specs.Prelude.{ℕ, Bool, true, false, cond, ◌&&◌, ◌||◌, [], replicate, nat_le, nat_lt}
+use Rattle.std.specs.Prelude.{ℕ, Bool, true, false, cond, ◌&&◌, ◌||◌, replicate, nat_le, nat_lt}
 use Rattle.block.specs.declared.message.Value.{Value}
 use Rattle.block.specs.declared.message.Value.TheVariants.{Nothing}
 use Rattle.block.specs.declared.message.Report.TheVariants as report

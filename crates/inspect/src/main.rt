@@ -1,7 +1,6 @@
 // Tells a capture of blocks line by line: what each block says or why it is refused, and at the end how many there were.
 #![tactic(auto)]
 
-
 mod counts;
 mod line;
 mod text;

@@ -1,5 +1,4 @@
-use Rattle.std.proofs.Common.{sym, ap, ◌∙◌}
-use Rattle.card.specs.Making.{new_replica}
+use Rattle.std.proofs.Common.{sym}
 use Rattle.card.proofs.Same.{same_replica}
 use Rattle.card.proofs.replica.Replica.make.Goals as goal
 
