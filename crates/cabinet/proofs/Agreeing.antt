@@ -1,31 +1,25 @@
 -- No two cards of a group disagree, whatever calls are made on them.
-use Rattle.std.proofs.Common.{◌≡◌, ℕ, zero, suc, ◌+◌, ◌-◌, ◌*◌, ◌<◌, ◌≤◌, Bool, true, false, cond, ◌&&◌, eqb, ltb, ◌⊎◌, List, [], ◌∷◌, map, length, get_or, Some, None, Option, sym, refl, ap, ◌∙◌, subst, inl, inr, arith}
-use mathlib.Core.Option.{some, none}
+use Rattle.std.proofs.Common.{◌≡◌, ℕ, zero, suc, ◌+◌, ◌*◌, ◌<◌, ◌≤◌, true, ltb, List, [], map, get_or, Some, None, Option, sym, refl, ap, ◌∙◌, subst, inl, inr, arith}
 use Rattle.std.proofs.lemmas.Bool.{cases_Bool, cases_eq}
 use Rattle.std.proofs.lemmas.Bool.Decides.{nat_tests}
-use Rattle.command.specs.declared.Command.{Command}
-use Rattle.agreement.specs.Lists.{In}
 use Rattle.agreement.specs.Logs.{Log, Log.pilot, Log.copilot}
 use Rattle.agreement.specs.Histories.{Note}
 use Rattle.block.specs.Ballots.{holder_of}
 use Rattle.block.specs.declared.message.Value.{Value}
 use Rattle.block.specs.declared.message.Value.TheVariants as value
 use Rattle.column.specs.Cells.{New as Blank}
-use Rattle.column.specs.Moves.{Fresh, Later, Later.now, Reached}
+use Rattle.column.specs.Moves.{Fresh, Later.now}
 use Rattle.column.specs.Safe.{Kept, Seating, Safe}
 use Rattle.column.proofs.Safe.{group_safe}
 use Rattle.card.specs.declared.replica.Replica.{Replica}
 use Rattle.card.specs.Groups.{is_group}
 use Rattle.card.specs.Tables.{absent, log_of, entry_at}
 use Rattle.card.specs.Making.{new_replica}
-use Rattle.cabinet.specs.declared.calls.Call.{Call}
 use Rattle.cabinet.specs.Groups.{Group, at, after, New}
 use Rattle.cabinet.specs.Agreements.{Holds, Agree, GroupsAgree}
-use Rattle.cabinet.specs.Standing.{Standing}
-use Rattle.cabinet.specs.Turns.{SeatedCard}
 use Rattle.cabinet.specs.Views.{number_of, log_named, cell_of, stage_of, content_of, noted}
 use Rattle.cabinet.proofs.Beginning.{cards_begin, empty_new}
-use Rattle.cabinet.proofs.Grouping.{view, cell_on, takeover_on, Sound, PlacedCard, GoesOn, at_inside}
+use Rattle.cabinet.proofs.Grouping.{view, cell_on, takeover_on, Sound, at_inside}
 use Rattle.cabinet.proofs.Calling.{calls_go}
 
 -- how many cards a group may lose

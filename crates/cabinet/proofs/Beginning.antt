@@ -1,18 +1,16 @@
 -- A new card.
-use Rattle.std.proofs.Common.{◌≡◌, ℕ, zero, suc, ◌<◌, ◌≤◌, Bool, true, false, ◌⊎◌, List, [], ◌∷◌, length, get_or, replicate, sym, refl, ap, ◌∙◌, inl, inr, arith}
+use Rattle.std.proofs.Common.{◌≡◌, ℕ, zero, suc, ◌≤◌, false, ◌⊎◌, [], length, get_or, replicate, refl, ap, ◌∙◌, inl, inr, arith}
 use lib.ListN.{length-replicate, get_or-replicate}
-use Rattle.std.proofs.lemmas.List.{get_or_past}
 use Rattle.agreement.specs.Logs.{Log, Log.pilot, Log.copilot}
 use Rattle.column.specs.Cells.{New}
 use Rattle.entry.specs.declared.answers.Answer.TheVariants.{Unheard}
 use Rattle.entry.specs.declared.entry.Entry.{Entry}
 use Rattle.entry.specs.Entries.{empty}
-use Rattle.card.specs.Groups.{is_group}
 use Rattle.card.specs.Making.{new_replica, empty_logs}
 use Rattle.card.specs.Tables.{absent}
 use Rattle.cabinet.specs.Views.{answer_of, cell_of, cell_at}
-use Rattle.cabinet.specs.Standing.{Seated, StandingEntry, Standing}
-use Rattle.cabinet.specs.Places.{Begins, CardsBegin}
+use Rattle.cabinet.specs.Standing.{Seated, StandingEntry}
+use Rattle.cabinet.specs.Places.{CardsBegin}
 
 pub none_past : {X : Type 0} (x : X) (n c : ℕ) → get_or (replicate n x) c x ≡ x
 none_past x zero c = refl

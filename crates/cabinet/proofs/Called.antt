@@ -1,12 +1,10 @@
 -- Each call of a card is a turn at one entry.
-use Rattle.std.proofs.Common.{◌≡◌, ℕ, zero, suc, ◌+◌, ◌-◌, ◌*◌, ◌<◌, ◌≤◌, Bool, true, false, cond, not, ◌&&◌, ◌||◌, eqb, ltb, leb, ◌⊎◌, List, [], ◌∷◌, length, get_or, set, replicate, Some, None, Ok, Err, Option, sym, refl, ap, ◌∙◌, subst, inl, inr, arith}
-use mathlib.Core.Option.{some, none}
+use Rattle.std.proofs.Common.{◌≡◌, ℕ, ◌-◌, ◌<◌, ◌≤◌, Bool, true, false, cond, not, ◌&&◌, ◌||◌, eqb, ltb, leb, List, set, replicate, Some, None, Ok, Err, Option, sym, refl, ap, ◌∙◌, subst, inl, inr, arith}
+use mathlib.Core.Option.{some}
 use Rattle.std.proofs.lemmas.Bool.{cases_Bool, and_parts, eqb-true}
 use Rattle.std.proofs.lemmas.Bool.Decides.{nat_tests}
 use Rattle.command.specs.declared.Command.{Command}
-use Rattle.agreement.specs.Logs.{Log, other}
 use Rattle.block.specs.declared.message.Message.{Message}
-use Rattle.block.specs.declared.message.Value.TheVariants as value
 use Rattle.column.specs.Cells.{Body.fast_accept, Body.prepare, Puts, Report.unheard, report_of_cell}
 use Rattle.column.specs.Cells as column
 use Rattle.column.specs.Moves.{Act.proposes, Act.takes_over, Act.rests, Turn.once}
@@ -19,7 +17,7 @@ use Rattle.entry.specs.declared.reports.Reported.{Reported}
 use Rattle.entry.specs.Ballots.{next_ballot}
 use Rattle.entry.specs.Entries.{is_held, is_committed, is_taken, promising}
 use Rattle.entry.specs.Entries as entries
-use Rattle.entry.specs.Owners.{is_open, proposing, counts_answers, can_settle, settling}
+use Rattle.entry.specs.Owners.{is_open, counts_answers, can_settle, settling}
 use Rattle.entry.specs.Takeovers.{begun}
 use Rattle.card.specs.declared.refusal.Refusal.TheVariants.{NoIdentity, NotPilot, LogFull, NoSuchEntry, NotOpen, TooFewAnswers, AlreadyCommitted, NothingThere}
 use Rattle.card.specs.declared.replica.Replica.{Replica}
@@ -29,10 +27,8 @@ use Rattle.card.specs.Steps.{Step}
 use Rattle.card.specs.Proposing.{is_nameless, next_entry, proposal_of, propose}
 use Rattle.card.specs.Settling.{settle}
 use Rattle.card.specs.Taking.{is_nothing, takeover_at, takeover}
-use Rattle.card.specs.Delivering.{turn}
-use Rattle.cabinet.specs.Views.{number_of, log_named, stage_of, answer_of, answers_of, seats_of, cell_of, report_of, reports_of}
-use Rattle.cabinet.specs.Standing.{Standing, StandingEntry}
-use Rattle.cabinet.specs.Turns.{SeatedCard, TakesTurn, DeliveriesTurn, ProposalsTurn, SettlingsTurn, TakeoversTurn}
+use Rattle.cabinet.specs.Views.{log_named, stage_of, answer_of, answers_of, seats_of, report_of, reports_of}
+use Rattle.cabinet.specs.Turns.{SeatedCard, TakesTurn, DeliveriesTurn}
 use Rattle.cabinet.proofs.Beginning.{none_past}
 use Rattle.cabinet.proofs.Counting.{puts_one}
 use Rattle.cabinet.proofs.Placing.{number_named}

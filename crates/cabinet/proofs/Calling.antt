@@ -1,11 +1,11 @@
 -- Every call takes a sound group to a sound group.
-use Rattle.std.proofs.Common.{◌≡◌, ℕ, zero, suc, ◌+◌, ◌*◌, ◌<◌, ◌≤◌, Bool, true, false, cond, ◌&&◌, eqb, ltb, leb, ◌⊎◌, List, [], ◌∷◌, ◌++◌, map, length, set, Some, None, Ok, Err, Option, Result, sym, refl, ap, ◌∙◌, subst, inl, inr, arith}
-use mathlib.Core.Option.{some, none}
-use Rattle.std.proofs.lemmas.Bool.{cases_Bool, cases_eq, and_parts, eqb-true}
+use Rattle.std.proofs.Common.{◌≡◌, ℕ, ◌<◌, ◌≤◌, Bool, true, false, cond, leb, List, [], ◌∷◌, map, Some, None, Ok, Err, Option, refl, subst, inl, inr, arith}
+use mathlib.Core.Option.{some}
+use Rattle.std.proofs.lemmas.Bool.{cases_Bool}
 use Rattle.std.proofs.lemmas.Bool.Decides.{nat_tests}
 use Rattle.command.specs.declared.Command.{Command}
 use Rattle.agreement.specs.Lists.{In}
-use Rattle.agreement.specs.Logs.{Log, Log.pilot}
+use Rattle.agreement.specs.Logs.{Log.pilot}
 use Rattle.block.specs.declared.message.Message.{Message}
 use Rattle.block.specs.declared.fault.Fault.{Fault}
 use Rattle.block.specs.Verdicts.{message_fault, range_fault, misfit_fault, or_else}
@@ -30,14 +30,13 @@ use Rattle.card.specs.Taking.{takeover}
 use Rattle.card.specs.Delivering.{turn, received}
 use Rattle.cabinet.specs.declared.calls.Call.{Call}
 use Rattle.cabinet.specs.declared.calls.Call.TheVariants.{Propose, Deliver, Settle, Takeover}
-use Rattle.cabinet.specs.Groups.{Group, at, one_of, seat_of, carried, delivered, step_of, stepped, called_on_card, called, after, New}
-use Rattle.cabinet.specs.Standing.{Standing}
-use Rattle.cabinet.specs.Turns.{SeatedCard, TakesTurn}
+use Rattle.cabinet.specs.Groups.{Group, at, seat_of, carried, delivered, stepped, called_on_card, called, after}
+use Rattle.cabinet.specs.Turns.{SeatedCard}
 use Rattle.cabinet.specs.Views.{number_of, log_named, noted, body_of}
 use Rattle.cabinet.proofs.Called.{deliveries_turn, proposals, settlings, takeovers}
 use Rattle.cabinet.proofs.Keeping.{After, Kept, delivery_keeps, proposing_keeps, settling_keeps, takeover_keeps}
-use Rattle.cabinet.proofs.Saying.{Said, Told, settle_said, takeover_said, delivery_said}
-use Rattle.cabinet.proofs.Grouping.{Sound, GoesOn, stays_put, advance, quietly, at_in, size, place, seated}
+use Rattle.cabinet.proofs.Saying.{Told, settle_said, takeover_said, delivery_said}
+use Rattle.cabinet.proofs.Grouping.{Sound, GoesOn, stays_put, advance, quietly, at_in, seated}
 
 some_is : {X : Type 0} {x y : X} → ◌≡◌ {A = Option X} (Some x) (Some y) → x ≡ y
 some_is e = grind arith

@@ -1,13 +1,12 @@
 -- A delivery that is not refused is a turn at the entry that its message is about.
-use Rattle.std.proofs.Common.{◌≡◌, ℕ, zero, suc, ◌+◌, ◌-◌, ◌*◌, ◌<◌, ◌≤◌, Bool, true, false, cond, not, ◌&&◌, ◌||◌, eqb, ltb, leb, ◌⊎◌, List, [], ◌∷◌, length, get_or, drop, set, is_some, Some, None, Ok, Err, Option, sym, refl, ap, ◌∙◌, subst, inl, inr, arith}
-use mathlib.Core.Option.{some, none}
-use mathlib.Core.Option as maybe
+use Rattle.std.proofs.Common.{◌≡◌, ℕ, suc, ◌+◌, ◌-◌, ◌*◌, ◌<◌, ◌≤◌, true, false, cond, ◌&&◌, eqb, ltb, leb, ◌⊎◌, List, [], length, get_or, drop, set, is_some, Some, None, Ok, Err, Option, sym, refl, ap, ◌∙◌, subst, inl, inr, arith}
+use mathlib.Core.Option.{none}
 use Rattle.std.proofs.lemmas.List.{get_or-drop, get_or_past}
 use Rattle.std.proofs.lemmas.Bool.{cases_Bool, cases_lt, and_parts, eqb-true}
 use Rattle.std.proofs.lemmas.Bool.Decides.{nat_tests}
 use Rattle.command.specs.declared.Command.{Command}
 use Rattle.agreement.specs.Lists.{In}
-use Rattle.agreement.specs.Logs.{Log, other, Content}
+use Rattle.agreement.specs.Logs.{Log, other}
 use Rattle.block.specs.declared.message.Kind.{Kind}
 use Rattle.block.specs.declared.message.Kind.TheVariants.{FastAccept, FastAcceptOk, FastAcceptReply, Accept, AcceptOk, Commit, Prepare, PrepareOk, Reject}
 use Rattle.block.specs.declared.message.Message.{Message}
@@ -23,10 +22,10 @@ use Rattle.scan.specs.Scans.{first_at}
 use Rattle.entry.specs.declared.entry.Entry.{Entry}
 use Rattle.entry.specs.declared.entry.State.{State}
 use Rattle.entry.specs.declared.entry.State.TheVariants.{Empty, Answered, Accepted, Committed}
-use Rattle.entry.specs.Entries.{is_held, is_committed, has_answered, blocks, answering, committing}
+use Rattle.entry.specs.Entries.{is_held, is_committed, has_answered, blocks, committing}
 use Rattle.card.specs.declared.replica.Replica.{Replica}
 use Rattle.card.specs.Tables.{absent, log_of, entry_at, with_entry, highest_held, is_blocked}
-use Rattle.cabinet.specs.Views.{number_of, log_named, stage_of, body_by, noted}
+use Rattle.cabinet.specs.Views.{number_of, log_named, body_by, noted}
 use Rattle.cabinet.specs.Standing.{Standing}
 use Rattle.block.specs.Fits.{ballot_fits}
 use Rattle.column.specs.Cells.{Body, Body.fast_accept, Body.fast_ok, Body.fast_reply, Body.accept_at, Body.accept_ok, Body.committed_as, Body.prepare, Body.prepare_ok, Body.reject}
@@ -36,7 +35,7 @@ use Rattle.entry.specs.declared.answers.Answer.TheVariants.{Unheard, Vote, Reply
 use Rattle.entry.specs.declared.takeover.Takeover.{Takeover}
 use Rattle.entry.specs.Ballots.{holder_in}
 use Rattle.entry.specs.Takeovers.{is_live}
-use Rattle.card.specs.Checks.{is_reply, is_request, is_addressed, is_mine, is_of_group, is_from_peer}
+use Rattle.card.specs.Checks.{is_reply, is_addressed, is_mine, is_from_peer}
 use Rattle.card.specs.Steps.{Step}
 use Rattle.card.specs.Delivering.{Turn, nothing, answers, hears, acknowledges_owner, acknowledges_by, acknowledges_takeover, reports_by, reports, reported_in, on_fast_accept, on_answer, on_accept_ok, unless_committed, accepts, promises, raises, turn_by, turn}
 use Rattle.card.specs.Delivering as delivering

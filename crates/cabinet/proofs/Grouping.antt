@@ -1,13 +1,12 @@
 -- A group of cards moves as the argument allows, so its cards never disagree.
-use Rattle.std.proofs.Common.{◌≡◌, ℕ, zero, suc, ◌+◌, ◌-◌, ◌*◌, ◌<◌, ◌≤◌, Bool, true, false, cond, ◌&&◌, ◌||◌, eqb, ltb, ◌⊎◌, List, [], ◌∷◌, ◌++◌, map, length, set, Some, None, Ok, Err, Option, sym, refl, ap, ◌∙◌, subst, inl, inr, arith, length-set}
+use Rattle.std.proofs.Common.{◌≡◌, ℕ, zero, suc, ◌<◌, ◌≤◌, ◌⊎◌, List, [], ◌∷◌, ◌++◌, map, length, set, Some, None, Option, sym, refl, ap, ◌∙◌, subst, inl, inr, arith, length-set}
 use mathlib.Core.Option.{some, none}
 use mathlib.Core.Option as maybe
-use Rattle.std.proofs.lemmas.Bool.{cases_Bool, cases_eq, and_parts, eqb-true}
-use Rattle.std.proofs.lemmas.Bool.Decides.{nat_tests}
+use Rattle.std.proofs.lemmas.Bool.{cases_eq}
 use Rattle.command.specs.declared.Command.{Command}
 use Rattle.agreement.specs.Lists.{In}
-use Rattle.agreement.specs.Logs.{Log, Log.pilot, Log.copilot, other, Content.content, Value.command}
-use Rattle.agreement.specs.Histories.{Event, Event.propose, Note}
+use Rattle.agreement.specs.Logs.{Log, other, Content.content, Value.command}
+use Rattle.agreement.specs.Histories.{Event.propose, Note}
 use Rattle.block.specs.declared.message.Message.{Message}
 use Rattle.block.specs.Ballots.{holder_of}
 use Rattle.column.specs.Cells.{Cell, Body, Message.message}
@@ -16,7 +15,7 @@ use Rattle.column.specs.Moves.{Fresh, add, Turn, Move, Later, Later.now, Later.t
 use Rattle.column.specs.Moves as moves
 use Rattle.card.specs.declared.replica.Replica.{Replica}
 use Rattle.entry.specs.Entries.{empty}
-use Rattle.cabinet.specs.Groups.{Group, at, one_of, New}
+use Rattle.cabinet.specs.Groups.{Group, at, one_of}
 use Rattle.cabinet.specs.Views.{number_of, log_named, cell_of, cell_at, takeover_in, body_by, body_of, noted}
 use Rattle.block.specs.declared.message.Kind.{Kind}
 use Rattle.block.specs.declared.message.Kind.TheVariants.{FastAccept, FastAcceptOk, FastAcceptReply, Accept, AcceptOk, Commit, Prepare, PrepareOk, Reject}
@@ -24,7 +23,7 @@ use Rattle.column.specs.Cells.{Body.fast_accept}
 use Rattle.cabinet.specs.Standing.{Standing}
 use Rattle.cabinet.specs.Turns.{SeatedCard, TakesTurn}
 use Rattle.cabinet.proofs.Proposed.{turn_proposes}
-use Rattle.cabinet.proofs.Saying.{Says, Said, Told, settle_said, takeover_said, delivery_said}
+use Rattle.cabinet.proofs.Saying.{Says, Said}
 
 -- places of a list
 pub at_inside : {X : Type 0} (xs : List X) (k : ℕ) (x : X) → at xs k ≡ Some x → k < length xs

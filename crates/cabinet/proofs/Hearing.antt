@@ -1,5 +1,5 @@
 -- Counting an answer, an AcceptOk or a report is a turn, and so is what the count leads to.
-use Rattle.std.proofs.Common.{◌≡◌, ℕ, zero, suc, ◌+◌, ◌-◌, ◌*◌, ◌/◌, ◌<◌, ◌≤◌, Bool, true, false, cond, not, ◌&&◌, eqb, ltb, leb, ◌⊎◌, List, [], ◌∷◌, length, get_or, set, Some, None, Option, sym, refl, ap, ◌∙◌, subst, inl, inr, arith}
+use Rattle.std.proofs.Common.{◌≡◌, ℕ, ◌+◌, ◌*◌, ◌<◌, ◌≤◌, Bool, true, false, not, ◌&&◌, eqb, leb, ◌⊎◌, List, [], length, get_or, set, None, Option, sym, refl, ap, ◌∙◌, subst, inl, inr, arith}
 use mathlib.Core.Option.{some, none}
 use mathlib.Core.Option as maybe
 use Rattle.std.proofs.lemmas.List.{get_or-set_same, get_or-set_other}
@@ -13,7 +13,7 @@ use Rattle.agreement.specs.Quorums.{count}
 use Rattle.block.specs.declared.message.Message.{Message}
 use Rattle.column.specs.Cells.{Cell, agreed, within, Body, Body.accept_at, Body.accept_ok, Body.committed_as, Message.message}
 use Rattle.column.specs.Cells as column
-use Rattle.column.specs.Moves.{Act, Act.commits_fast, Act.settles, Act.counts_accept, Act.commits_first, Act.rests, Turn, Turn.once, Turn.counted}
+use Rattle.column.specs.Moves.{Act, Act.commits_fast, Act.settles, Act.counts_accept, Act.commits_first, Act.rests, Turn.once, Turn.counted}
 use Rattle.scan.specs.Scans.{counted as counted_in}
 use Rattle.entry.specs.declared.answers.Answer.{Answer}
 use Rattle.entry.specs.declared.answers.Answer.TheVariants.{Unheard, Vote, Reply}
@@ -23,18 +23,17 @@ use Rattle.entry.specs.declared.entry.Progress.TheVariants.{Waits, Accepts, Comm
 use Rattle.entry.specs.declared.entry.State.{State}
 use Rattle.entry.specs.declared.entry.State.TheVariants.{Empty, Answered, Accepted, Committed}
 use Rattle.entry.specs.Quorums.{majority_of, fast_quorum_of}
-use Rattle.entry.specs.Answers.{is_vote, is_reply, is_answer, is_within, settled}
-use Rattle.entry.specs.Entries.{accepting, committing}
-use Rattle.entry.specs.Owners.{with_answers, with_accepts, is_open, counts_answers, can_settle, settling, has_fast_quorum, has_two_replies, decided, hearing, is_accepted, accepted_by, acknowledging}
+use Rattle.entry.specs.Answers.{is_vote, is_answer, is_within, settled}
+use Rattle.entry.specs.Entries.{committing}
+use Rattle.entry.specs.Owners.{with_answers, with_accepts, is_open, counts_answers, can_settle, settling, has_fast_quorum, has_two_replies, decided, hearing, is_accepted, acknowledging}
 use Rattle.card.specs.declared.replica.Replica.{Replica}
 use Rattle.card.specs.Tables.{entry_at, with_entry}
 use Rattle.card.specs.Messages.{announced}
-use Rattle.cabinet.specs.Views.{number_of, stage_of, content_of, answer_of, answers_of, seats_of, cell_of, cell_at, takeover_in, body_of}
-use Rattle.cabinet.specs.Settlements.{Low}
-use Rattle.cabinet.specs.Standing.{Seated, Standing, StandingEntry}
+use Rattle.cabinet.specs.Views.{number_of, stage_of, content_of, answer_of, answers_of, seats_of, cell_of, cell_at, takeover_in}
+use Rattle.cabinet.specs.Standing.{Standing, StandingEntry}
 use Rattle.cabinet.proofs.Counting.{count_seated, counted_alike, count_alike, seated_more, puts_one}
 use Rattle.cabinet.proofs.Settling.{answers_settle}
-use Rattle.cabinet.proofs.Turning.{Turned, Does, writes}
+use Rattle.cabinet.proofs.Turning.{Does, writes}
 
 pub open_only : (st : State) → is_open st ≡ true → st ≡ Answered
 open_only Empty o = absurd (grind arith)

@@ -1,5 +1,5 @@
 -- Each call leaves a card standing in its seat.
-use Rattle.std.proofs.Common.{◌≡◌, ℕ, zero, suc, ◌+◌, ◌-◌, ◌*◌, ◌<◌, ◌≤◌, Bool, true, false, cond, not, ◌&&◌, ◌||◌, eqb, ltb, leb, ◌⊎◌, List, [], ◌∷◌, length, get_or, set, replicate, Some, None, Ok, Err, Option, sym, refl, ap, ◌∙◌, subst, inl, inr, arith}
+use Rattle.std.proofs.Common.{◌≡◌, ℕ, ◌-◌, ◌<◌, ◌≤◌, Bool, true, false, cond, not, ◌&&◌, ◌||◌, eqb, ltb, leb, ◌⊎◌, List, length, get_or, set, replicate, Some, None, Ok, Err, Option, sym, refl, ap, ◌∙◌, subst, inl, inr, arith}
 use Rattle.std.proofs.lemmas.List.{get_or-set_same, get_or-set_other}
 use Rattle.std.proofs.lemmas.Bool.{cases_Bool, cases_eq}
 use Rattle.std.proofs.lemmas.Bool.Decides.{nat_tests}
@@ -38,9 +38,8 @@ use Rattle.card.specs.Taking.{is_nothing, takeover_at, takeover}
 use Rattle.card.specs.Tables.{absent, log_of, entry_at, with_entry, with_takeover, is_placed, highest_held, highest_taken, is_blocked}
 use Rattle.card.specs.Steps.{Step}
 use Rattle.card.specs.Delivering.{nothing, recommits, answers, hears, acknowledges_owner, acknowledges_by, acknowledges_takeover, reports_by, reports, reported_in, same_value, on_fast_accept, on_answer, on_accept_ok, unless_committed, accepts, promises, raises, turn_by, turn}
-use Rattle.cabinet.specs.Settlements.{Given, Low}
 use Rattle.cabinet.specs.Choices.{Chosen, Chosen.as_accepted, Chosen.as_voted, Chosen.as_noop}
-use Rattle.cabinet.specs.Standing.{Seated, StandingEntry, StandingTakeover, StandingMaybe, Standing}
+use Rattle.cabinet.specs.Standing.{StandingEntry, StandingTakeover, StandingMaybe, Standing}
 use Rattle.cabinet.proofs.Beginning.{seated, none_past}
 use Rattle.cabinet.proofs.Choosing.{reports_choose}
 use Rattle.cabinet.proofs.Counting.{seated_more}

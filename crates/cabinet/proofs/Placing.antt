@@ -1,14 +1,11 @@
 -- An entry in its place in a card's table.
-use Rattle.std.proofs.Common.{◌≡◌, ℕ, zero, suc, ◌+◌, ◌-◌, ◌<◌, ◌≤◌, Bool, true, false, cond, eqb, ◌≢◌, ◌⊎◌, List, [], ◌∷◌, length, get_or, set, Option, sym, refl, ap, ◌∙◌, inl, inr, arith, length-set}
+use Rattle.std.proofs.Common.{◌≡◌, ℕ, zero, suc, ◌-◌, ◌≤◌, [], length, get_or, set, sym, refl, ap, ◌∙◌, inl, inr, arith, length-set}
 use Rattle.std.proofs.lemmas.List.{get_or-set_same, get_or-set_other}
 use Rattle.std.proofs.lemmas.Bool.{cases_eq}
-use Rattle.std.proofs.lemmas.Bool.Decides.{nat_tests}
 use Rattle.agreement.specs.Logs.{Log, Log.pilot, Log.copilot, other}
-use Rattle.column.specs.Cells.{Cell}
 use Rattle.entry.specs.declared.entry.Entry.{Entry}
-use Rattle.entry.specs.declared.takeover.Takeover.{Takeover}
 use Rattle.card.specs.declared.replica.Replica.{Replica}
-use Rattle.card.specs.Tables.{absent, log_of, entry_at, with_entry, with_takeover}
+use Rattle.card.specs.Tables.{absent, log_of, entry_at, with_entry}
 use Rattle.cabinet.specs.Views.{number_of, log_named, cell_of, cell_at}
 use Rattle.cabinet.specs.Scans.{Shaped}
 

@@ -1,13 +1,13 @@
 -- What a scan says of the items that it passed by.
-use Rattle.std.proofs.Common.{◌≡◌, ℕ, zero, suc, ◌+◌, ◌-◌, ◌<◌, ◌≤◌, Bool, true, false, cond, eqb, ltb, leb, List, [], ◌∷◌, length, get_or, drop, is_some, Some, None, Option, sym, refl, ap, ◌∙◌, arith}
+use Rattle.std.proofs.Common.{◌≡◌, ℕ, zero, suc, ◌+◌, ◌-◌, ◌<◌, ◌≤◌, Bool, true, false, cond, List, [], ◌∷◌, length, get_or, drop, is_some, Some, refl, ap, ◌∙◌, arith}
 use Rattle.std.proofs.lemmas.List.{get_or-drop, length-drop}
 use Rattle.std.proofs.lemmas.Bool.Decides.{nat_tests}
 use Rattle.scan.specs.Scans.{counted, first_at, highest_of}
 use Rattle.entry.specs.declared.entry.Entry.{Entry}
 use Rattle.entry.specs.Entries.{is_held, is_taken, has_answered, blocks}
 use Rattle.card.specs.declared.replica.Replica.{Replica}
-use Rattle.card.specs.Tables.{absent, log_of, entry_at, highest_held, highest_taken, is_blocked}
-use Rattle.cabinet.specs.Scans.{Shaped, Scanned, ScansFind}
+use Rattle.card.specs.Tables.{absent, log_of, entry_at, highest_held, is_blocked}
+use Rattle.cabinet.specs.Scans.{Shaped, ScansFind}
 
 module _ {X : Type 0} (p : X → Bool) (d : X) where
   -- where the first is not found, no item passes

@@ -1,5 +1,5 @@
 -- Each rule of a card is a turn at one entry.
-use Rattle.std.proofs.Common.{◌≡◌, ℕ, zero, suc, ◌+◌, ◌-◌, ◌*◌, ◌<◌, ◌≤◌, Bool, true, false, cond, eqb, ltb, leb, ◌⊎◌, List, [], ◌∷◌, length, get_or, Some, None, Option, sym, refl, ap, ◌∙◌, subst, inl, inr, arith}
+use Rattle.std.proofs.Common.{◌≡◌, ℕ, zero, suc, ◌-◌, ◌<◌, ◌≤◌, true, false, List, [], Some, None, Option, sym, refl, ap, ◌∙◌, subst, inl, inr, arith}
 use mathlib.Core.Option.{some, none}
 use mathlib.Core.Option as maybe
 use Rattle.std.proofs.lemmas.List.{get_or_past}
@@ -7,17 +7,16 @@ use Rattle.std.proofs.lemmas.Bool.{cases_Bool, cases_lt}
 use Rattle.std.proofs.lemmas.Bool.Decides.{nat_tests}
 use Rattle.command.specs.declared.Command.{Command}
 use Rattle.agreement.specs.Lists.{In}
-use Rattle.agreement.specs.Logs.{Log, other, Content}
+use Rattle.agreement.specs.Logs.{Log, other}
 use Rattle.agreement.specs.Histories.{Event}
 use Rattle.block.specs.declared.message.Destination.TheVariants.{Seat}
 use Rattle.block.specs.declared.message.Message.{Message}
-use Rattle.block.specs.declared.message.Report.TheVariants as report
 use Rattle.block.specs.declared.message.Value.{Value}
 use Rattle.block.specs.declared.message.Value.TheVariants as value
 use Rattle.block.specs.Ballots.{holder_of}
 use Rattle.column.specs.Cells.{Stage.empty, Stage.answered, Stage.accepted, Stage.committed, Cell, report_of_cell, report_at_stage, Body, Body.fast_accept, Body.fast_ok, Body.fast_reply, Body.accept_at, Body.accept_ok, Body.committed_as, Body.prepare, Body.prepare_ok, Body.reject, Message.message, Gave}
 use Rattle.column.specs.Cells as column
-use Rattle.column.specs.Moves.{Highest, Unblocked, Act, Act.votes, Act.replies, Act.repeats_vote, Act.repeats_reply, Act.accepts, Act.learns, Act.promises, Act.raises, Act.tells_commit, Act.tells_promise, Act.rests, Turn, Turn.once}
+use Rattle.column.specs.Moves.{Highest, Unblocked, Act.votes, Act.replies, Act.repeats_vote, Act.repeats_reply, Act.accepts, Act.learns, Act.promises, Act.raises, Act.tells_commit, Act.tells_promise, Act.rests, Turn, Turn.once}
 use Rattle.entry.specs.declared.entry.Entry.{Entry}
 use Rattle.entry.specs.declared.entry.State.{State}
 use Rattle.entry.specs.declared.entry.State.TheVariants.{Empty, Answered, Accepted, Committed}
@@ -27,10 +26,8 @@ use Rattle.entry.specs.Entries as entries
 use Rattle.card.specs.declared.replica.Replica.{Replica}
 use Rattle.card.specs.Tables.{absent, log_of, entry_at, with_entry, with_takeover, highest_held, is_blocked}
 use Rattle.card.specs.Messages.{fast_answer, accept_ok_message, prepare_ok_message, commit, reject as rejection}
-use Rattle.card.specs.Delivering.{answer_on, answers, rejects, recommits, nothing, on_fast_accept, unless_committed}
-use Rattle.card.specs.Delivering as delivering
 use Rattle.cabinet.specs.Views.{number_of, stage_of, content_of, cell_of, cell_at, report_of, takeover_of, takeover_in, body_of}
-use Rattle.cabinet.specs.Standing.{Standing, StandingEntry}
+use Rattle.cabinet.specs.Standing.{Standing}
 use Rattle.cabinet.proofs.Scanning.{scans_find}
 use Rattle.cabinet.proofs.Placing.{number_low, number_other, cell_here, cell_written, cell_kept}
 

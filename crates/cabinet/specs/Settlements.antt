@@ -1,5 +1,5 @@
 -- What the answers to a proposal settle on.
-use Rattle.std.specs.Prelude.{◌≡◌, ℕ, ◌≤◌, ◌⊎◌, List, [], ◌∷◌, slice_index_or}
+use Rattle.std.specs.Prelude.{◌≡◌, ℕ, ◌≤◌, ◌⊎◌, List, slice_index_or}
 use Rattle.scan.specs.Scans.{counted}
 use Rattle.entry.specs.declared.answers.Answer.{Answer}
 use Rattle.entry.specs.declared.answers.Answer.TheVariants.{Unheard, Vote, Reply}

@@ -1,5 +1,5 @@
 -- A card's entries, takeover and messages, as the argument about whole groups sees them.
-use Rattle.std.specs.Prelude.{ℕ, zero, suc, Bool, false, cond, List, [], Some, None, Option, ◌==◌, slice_index_or}
+use Rattle.std.specs.Prelude.{ℕ, zero, suc, Bool, false, cond, List, Some, None, Option, ◌==◌, slice_index_or}
 use Rattle.std.proofs.Math.Option.{some, none}
 use Rattle.std.proofs.Math.Option as maybe
 use Rattle.agreement.specs.Logs.{Log, Log.pilot, Log.copilot, Value.noop, Value.command, Content, Content.content}

@@ -1,7 +1,7 @@
 -- Every call takes a sound group to a sound group.
-use Rattle.std.proofs.Common.{◌≡◌, ℕ, zero, suc, ◌+◌, ◌*◌, ◌<◌, ◌≤◌, Bool, true, false, cond, ◌&&◌, eqb, ltb, leb, ◌⊎◌, List, [], ◌∷◌, ◌++◌, map, length, set, Some, None, Ok, Err, Option, Result, sym, refl, ap, ◌∙◌, subst, inl, inr, append-nil, arith}
-use mathlib.Core.Option.{some, none}
-use Rattle.std.proofs.lemmas.Bool.{cases_Bool, cases_eq, and_parts, eqb-true}
+use Rattle.std.proofs.Common.{◌≡◌, ℕ, zero, suc, ◌<◌, ◌≤◌, Bool, true, false, cond, leb, List, [], ◌∷◌, ◌++◌, map, set, Some, None, Ok, Err, Option, sym, refl, ap, ◌∙◌, subst, inl, inr, append-nil, arith}
+use mathlib.Core.Option.{some}
+use Rattle.std.proofs.lemmas.Bool.{cases_Bool}
 use Rattle.std.proofs.lemmas.Bool.Decides.{nat_tests}
 use Rattle.std.specs.List.{slice_get}
 use Rattle.command.specs.declared.Command.{Command}
@@ -30,14 +30,13 @@ use Rattle.card.specs.Taking.{takeover}
 use Rattle.card.specs.Delivering.{turn, received}
 use Rattle.group.specs.declared.calls.Call.{Call}
 use Rattle.group.specs.declared.calls.Call.TheVariants.{Propose, Deliver, Settle, Takeover, Run}
-use Rattle.group.specs.Groups.{Group, one_of, seat_of, carried, delivered, step_of, stepped, called_on_card, called, after, New}
-use Rattle.group.specs.Standing.{Standing}
-use Rattle.group.specs.Turns.{SeatedCard, TakesTurn}
+use Rattle.group.specs.Groups.{Group, seat_of, carried, delivered, stepped, called_on_card, called, after}
+use Rattle.group.specs.Turns.{SeatedCard}
 use Rattle.group.specs.Views.{number_of, log_named, noted, body_of}
 use Rattle.group.proofs.Called.{deliveries_turn, proposals, settlings, takeovers}
 use Rattle.group.proofs.Keeping.{After, Kept, delivery_keeps, proposing_keeps, settling_keeps, takeover_keeps}
-use Rattle.group.proofs.Saying.{Said, Told, settle_said, takeover_said, delivery_said}
-use Rattle.group.proofs.Grouping.{Sound, GoesOn, stays_put, advance, quietly, in_first, at_in, size, place, seated}
+use Rattle.group.proofs.Saying.{Told, settle_said, takeover_said, delivery_said}
+use Rattle.group.proofs.Grouping.{Sound, GoesOn, stays_put, advance, quietly, in_first, at_in, seated}
 
 some_is : {X : Type 0} {x y : X} → ◌≡◌ {A = Option X} (Some x) (Some y) → x ≡ y
 some_is e = grind arith

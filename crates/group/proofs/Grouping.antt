@@ -1,14 +1,13 @@
 -- A group of cards moves as the argument allows, so its cards never disagree.
-use Rattle.std.proofs.Common.{◌≡◌, ℕ, zero, suc, ◌+◌, ◌-◌, ◌*◌, ◌<◌, ◌≤◌, Bool, true, false, cond, ◌&&◌, ◌||◌, eqb, ltb, ◌⊎◌, List, [], ◌∷◌, ◌++◌, map, length, set, Some, None, Ok, Err, Option, sym, refl, ap, ◌∙◌, subst, inl, inr, arith, length-set}
+use Rattle.std.proofs.Common.{◌≡◌, ℕ, zero, suc, ◌<◌, ◌≤◌, ◌⊎◌, List, [], ◌∷◌, ◌++◌, map, length, set, Some, None, Option, sym, refl, ap, ◌∙◌, subst, inl, inr, arith, length-set}
 use mathlib.Core.Option.{some, none}
 use mathlib.Core.Option as maybe
-use Rattle.std.proofs.lemmas.Bool.{cases_Bool, cases_eq, and_parts, eqb-true}
-use Rattle.std.proofs.lemmas.Bool.Decides.{nat_tests}
+use Rattle.std.proofs.lemmas.Bool.{cases_eq}
 use Rattle.std.specs.List.{slice_get}
 use Rattle.command.specs.declared.Command.{Command}
 use Rattle.agreement.specs.Lists.{In}
-use Rattle.agreement.specs.Logs.{Log, Log.pilot, Log.copilot, other, Content.content, Value.command}
-use Rattle.agreement.specs.Histories.{Event, Event.propose, Note}
+use Rattle.agreement.specs.Logs.{Log, other, Content.content, Value.command}
+use Rattle.agreement.specs.Histories.{Event.propose, Note}
 use Rattle.block.specs.declared.message.Message.{Message}
 use Rattle.block.specs.Ballots.{holder_of}
 use Rattle.column.specs.Cells.{Cell, Body, Message.message}
@@ -16,16 +15,15 @@ use Rattle.column.specs.Cells as column
 use Rattle.column.specs.Moves.{Fresh, add, Turn, Move, Later, Later.now, Later.then, Reached}
 use Rattle.column.specs.Moves as moves
 use Rattle.card.specs.declared.replica.Replica.{Replica}
-use Rattle.entry.specs.Entries.{empty}
-use Rattle.group.specs.Groups.{Group, one_of, New}
-use Rattle.group.specs.Views.{number_of, log_named, cell_of, cell_on, cell_at, takeover_in, body_by, body_of, noted}
+use Rattle.group.specs.Groups.{Group, one_of}
+use Rattle.group.specs.Views.{number_of, log_named, cell_on, cell_at, takeover_in, body_by, body_of, noted}
 use Rattle.block.specs.declared.message.Kind.{Kind}
 use Rattle.block.specs.declared.message.Kind.TheVariants.{FastAccept, FastAcceptOk, FastAcceptReply, Accept, AcceptOk, Commit, Prepare, PrepareOk, Reject}
 use Rattle.column.specs.Cells.{Body.fast_accept}
 use Rattle.group.specs.Standing.{Standing}
 use Rattle.group.specs.Turns.{SeatedCard, TakesTurn}
 use Rattle.group.proofs.Proposed.{turn_proposes}
-use Rattle.group.proofs.Saying.{Says, Said, Told, settle_said, takeover_said, delivery_said}
+use Rattle.group.proofs.Saying.{Says, Said}
 
 -- places of a list
 pub at_inside : {X : Type 0} (xs : List X) (k : ℕ) (x : X) → slice_get xs k ≡ Some x → k < length xs

@@ -1,13 +1,12 @@
 -- A majority of the answers does not exceed the dependency that they settle on, and it is the smallest such answer.
-use Rattle.std.proofs.Common.{◌≡◌, ℕ, zero, suc, ◌+◌, ◌<◌, ◌≤◌, Bool, true, false, cond, ltb, leb, ◌⊎◌, List, [], ◌∷◌, get_or, sym, refl, ap, ◌∙◌, inl, inr, arith}
+use Rattle.std.proofs.Common.{◌≡◌, ℕ, zero, suc, ◌≤◌, true, ltb, ◌⊎◌, List, [], ◌∷◌, refl, inl, inr, arith}
 use Rattle.std.proofs.lemmas.Bool.{cases_Bool}
 use Rattle.std.proofs.lemmas.Bool.Decides.{nat_tests}
 use Rattle.scan.specs.Scans.{counted}
 use Rattle.entry.specs.declared.answers.Answer.{Answer}
 use Rattle.entry.specs.declared.answers.Answer.TheVariants.{Unheard, Vote, Reply}
-use Rattle.entry.specs.Quorums.{majority_of}
 use Rattle.entry.specs.Answers.{is_answer, is_within, is_enough, smaller_of, best_of, settled}
-use Rattle.group.specs.Settlements.{Given, Low, Supported, Settles, AnswersSettle}
+use Rattle.group.specs.Settlements.{Given, Low, AnswersSettle}
 
 within_128 : (a : Answer) → ((d : ℕ) → (a ≡ Vote d) ⊎ (a ≡ Reply d) → d ≤ 128) → is_within 128 a ≡ is_answer a
 within_128 Unheard l = refl

@@ -1,7 +1,6 @@
 -- What a takeover makes of a report or an AcceptOk is a turn.
-use Rattle.std.proofs.Common.{◌≡◌, ℕ, zero, suc, ◌+◌, ◌-◌, ◌*◌, ◌<◌, ◌≤◌, Bool, true, false, cond, not, ◌&&◌, ◌||◌, eqb, leb, ◌⊎◌, List, [], ◌∷◌, length, get_or, set, Some, None, Option, sym, refl, ap, ◌∙◌, subst, inl, inr, arith}
+use Rattle.std.proofs.Common.{◌≡◌, ℕ, ◌+◌, ◌*◌, ◌<◌, ◌≤◌, Bool, true, false, cond, not, ◌&&◌, ◌||◌, eqb, leb, List, [], get_or, set, Some, None, Option, sym, refl, ap, ◌∙◌, subst, inl, inr, arith}
 use mathlib.Core.Option.{some, none}
-use mathlib.Core.Option as maybe
 use Rattle.std.proofs.lemmas.Bool.{cases_Bool, cases_lt, and_parts, eqb-true}
 use Rattle.std.proofs.lemmas.Bool.Decides.{nat_tests}
 use Rattle.agreement.specs.Lists.{In}
@@ -14,7 +13,7 @@ use Rattle.block.specs.declared.message.Value.{Value}
 use Rattle.block.specs.Ballots.{holder_of}
 use Rattle.column.specs.Cells.{Stage.committed, Cell, heard, vote_of, Report.vouched, Report.held, Body, Body.accept_at, Body.accept_ok, Body.committed_as, Body.prepare_ok, Message.message}
 use Rattle.column.specs.Cells as column
-use Rattle.column.specs.Moves.{votes_in, NoneHeld, Picks, Picks.picks_held, Picks.picks_voted, Picks.picks_none, Act, Act.counts_report, Act.chooses, Act.counts_backing, Act.commits_choice, Act.rests, Turn, Turn.once, Turn.counted}
+use Rattle.column.specs.Moves.{votes_in, NoneHeld, Picks, Picks.picks_held, Picks.picks_voted, Picks.picks_none, Act, Act.counts_report, Act.chooses, Act.counts_backing, Act.commits_choice, Act.rests, Turn.once, Turn.counted}
 use Rattle.scan.specs.Scans.{counted as counted_in}
 use Rattle.entry.specs.declared.entry.Entry.{Entry}
 use Rattle.entry.specs.declared.entry.Progress.{Progress}
@@ -26,14 +25,14 @@ use Rattle.entry.specs.declared.takeover.Takeover.{Takeover}
 use Rattle.entry.specs.Quorums.{majority_of}
 use Rattle.entry.specs.Entries.{is_committed, accepting, committing}
 use Rattle.entry.specs.Reports.{is_reported, is_vote_of, is_vote_report, votes_for, choice}
-use Rattle.entry.specs.Takeovers.{takeover_of as takeover_from, is_live, gathered, reporting, agreed, acknowledging}
+use Rattle.entry.specs.Takeovers.{takeover_of as takeover_from, is_live, reporting, agreed, acknowledging}
 use Rattle.card.specs.declared.replica.Replica.{Replica}
 use Rattle.card.specs.Tables.{entry_at, with_entry, with_takeover}
 use Rattle.card.specs.Messages.{announced}
-use Rattle.group.specs.Views.{number_of, log_named, stage_of, content_of, seats_of, cell_of, cell_at, report_by, report_of, reports_of, takeover_of, takeover_in, body_of}
-use Rattle.group.specs.Choices.{Reports, Accepts as AcceptedIn, NoneAccepted, Chosen, Chosen.as_accepted, Chosen.as_voted, Chosen.as_noop}
+use Rattle.group.specs.Views.{number_of, log_named, stage_of, content_of, seats_of, cell_of, cell_at, report_by, report_of, reports_of, takeover_of, takeover_in}
+use Rattle.group.specs.Choices.{Reports, NoneAccepted, Chosen, Chosen.as_accepted, Chosen.as_voted, Chosen.as_noop}
 use Rattle.group.specs.Standing.{Seated, Standing, StandingTakeover}
-use Rattle.group.proofs.Counting.{count_seated, counted_alike, count_alike, seated_more, puts_one}
+use Rattle.group.proofs.Counting.{count_seated, count_alike, seated_more, puts_one}
 use Rattle.group.proofs.Choosing.{reports_choose}
 use Rattle.group.proofs.Turning.{Turned, Does, writes_both, committed_only}
 

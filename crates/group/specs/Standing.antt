@@ -1,8 +1,7 @@
 -- What holds of every card that calls alone have changed since it was made.
-use Rattle.std.specs.Prelude.{◌≡◌, ℕ, ◌<◌, ◌≤◌, Bool, true, false, List, length, Some, None, Option, ◌≢◌, slice_index_or}
+use Rattle.std.specs.Prelude.{◌≡◌, ℕ, ◌<◌, ◌≤◌, true, false, List, length, Some, None, Option, ◌≢◌, slice_index_or}
 use Rattle.block.specs.declared.message.Report.TheVariants as report
 use Rattle.block.specs.declared.message.Value.TheVariants as value
-use Rattle.entry.specs.declared.answers.Answer.{Answer}
 use Rattle.entry.specs.declared.answers.Answer.TheVariants.{Unheard, Vote}
 use Rattle.entry.specs.declared.entry.Entry.{Entry}
 use Rattle.entry.specs.declared.entry.State.TheVariants.{Empty}
