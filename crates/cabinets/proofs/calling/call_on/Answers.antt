@@ -9,17 +9,17 @@ returns g c =
     let a = g.A.Machine in
     let b = g.B.Machine in
     let cards = cards_of a b c.args.seats.now in
-    let lent = c.as-slice.ensures.value in
-    let went = c.on-seat-answer.ensures.cards ∙ ap (λ sent. cards_after (makes a b) cards sent c.args.call) lent in
-    let said = c.on-seat-answer.ensures.answer ∙ ap (λ sent. answered (makes a b) cards sent c.args.call) lent in
+    let lent = c.as_slice.ensures.value in
+    let went = c.on_seat-answer.ensures.cards ∙ ap (λ sent. cards_after (makes a b) cards sent c.args.call) lent in
+    let said = c.on_seat-answer.ensures.answer ∙ ap (λ sent. answered (makes a b) cards sent c.args.call) lent in
     record {
       after =
-          called_so (makes a b) cards (cards_of a b c.on-seat-answer.new.seats) (vec_items c.args.sent.now) (vec_items c.keep.new.items)
+          called_so (makes a b) cards (cards_of a b c.on_seat-answer.new.seats) (vec_items c.args.sent.now) (vec_items c.keep.new.items)
           (vec_items c.args.proposed.now) (vec_items c.keep-2.new.items) (vec_items c.args.ran.now) (vec_items c.keep-3.new.items) c.args.call
-          c.on-seat-answer.result c.seat.result c.message.result c.proposed.result c.ran.result went said c.seat.ensures
+          c.on_seat-answer.result c.seat.result c.message.result c.proposed.result c.ran.result went said c.seat.ensures
           c.message.ensures c.keep.ensures.items c.proposed.ensures c.keep-2.ensures.items c.ran.ensures c.keep-3.ensures.items;
       answer = said;
-      sent-room = (c.keep.ensures.capacity, c.keep.ensures.len);
-      proposed-room = (c.keep-2.ensures.capacity, c.keep-2.ensures.len);
-      ran-room = (c.keep-3.ensures.capacity, c.keep-3.ensures.len);
+      sent_room = (c.keep.ensures.capacity, c.keep.ensures.len);
+      proposed_room = (c.keep-2.ensures.capacity, c.keep-2.ensures.len);
+      ran_room = (c.keep-3.ensures.capacity, c.keep-3.ensures.len);
     }
