@@ -1,12 +1,12 @@
 -- Lists of commands that ran, and the first of each identity among them.
-use Rattle.std.proofs.Common.{◌≡◌, ℕ, zero, suc, ◌+◌, ◌<◌, Bool, true, false, cond, ◌||◌, eqb, ◌⊎◌, List, [], ◌∷◌, ◌++◌, map, length, get_or, drop, Some, sym, refl, ap, ◌∙◌, inl, inr, append_assoc, append-nil, arith}
+use Rattle.std.proofs.Common.{◌≡◌, ℕ, zero, suc, ◌+◌, ◌<◌, Bool, true, false, cond, ◌||◌, eqb, List, [], ◌∷◌, ◌++◌, map, length, get_or, drop, Some, sym, refl, ap, ◌∙◌, inl, inr, append_assoc, append-nil, arith}
 use mathlib.Core.List.{map-append}
 use Rattle.std.specs.List.{slice_get}
 use Rattle.std.proofs.lemmas.List.{at_drop_more}
 use Rattle.std.proofs.lemmas.Bool.Decides.{nat_tests}
 use Rattle.command.specs.declared.Command.{Command}
 use Rattle.command.specs.declared.Identity.{Identity}
-use Rattle.agreement.specs.Lists.{In, Front, Agree, seen, firsts_past, Distinct}
+use Rattle.agreement.specs.Lists.{In, Agree, seen, firsts_past, Distinct}
 use Rattle.agreement.specs.Walks.{Step, Step.step, same_identity, identity_of, once_each}
 use Rattle.machine.specs.Onces.{known}
 use Rattle.cabinets.specs.declared.answer.Listed.{Listed}

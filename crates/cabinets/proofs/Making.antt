@@ -1,5 +1,5 @@
 -- New cards in their seats make a new group.
-use Rattle.std.proofs.Common.{◌≡◌, ℕ, zero, suc, ◌+◌, ◌<◌, ◌≤◌, true, ◌⊎◌, List, [], ◌∷◌, ◌++◌, map, length, Some, None, Option, sym, refl, ap, ◌∙◌, subst, inl, inr, append-nil, arith, length-append}
+use Rattle.std.proofs.Common.{◌≡◌, ℕ, zero, suc, ◌+◌, ◌<◌, true, ◌⊎◌, List, [], ◌∷◌, ◌++◌, map, length, Some, Option, sym, refl, ap, ◌∙◌, subst, inl, inr, append-nil, arith, length-append}
 use mathlib.Core.List.{map-append}
 use Rattle.std.specs.List.{slice_get}
 use Rattle.std.proofs.lemmas.List.{length-map}
@@ -9,7 +9,6 @@ use Rattle.card.specs.Groups.{is_group}
 use Rattle.fitted.specs.declared.make.NotMade.{NotMade}
 use Rattle.fitted.specs.declared.make.NotMade.TheVariants.{Refused, NoMemory}
 use Rattle.fitted.specs.Makes.{new_meaning}
-use Rattle.fitted.specs.Meanings.{Meaning}
 use Rattle.cabinets.specs.declared.make.Make.{Make}
 use Rattle.cabinets.specs.declared.seat.Seat.{Seat}
 use Rattle.cabinets.specs.Groups.{Group, New}

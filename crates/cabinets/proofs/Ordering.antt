@@ -1,7 +1,7 @@
 -- What calls do to a group with its machines, they do to its ordering states.
-use Rattle.std.proofs.Common.{◌≡◌, ℕ, zero, suc, Bool, true, false, cond, List, [], ◌∷◌, ◌++◌, map, length, set, Some, None, Ok, Err, Option, sym, refl, ap, ◌∙◌, append-nil, arith}
+use Rattle.std.proofs.Common.{◌≡◌, ℕ, zero, suc, Bool, true, false, List, [], ◌∷◌, ◌++◌, map, set, Some, None, Ok, Err, Option, sym, refl, ap, ◌∙◌, append-nil, arith}
 use Rattle.std.specs.List.{slice_get}
-use Rattle.std.proofs.lemmas.List.{map-set, length-map}
+use Rattle.std.proofs.lemmas.List.{map-set}
 use Rattle.command.specs.declared.Command.{Command}
 use Rattle.block.specs.declared.message.Message.{Message}
 use Rattle.block.specs.declared.message.Value.{Value}
@@ -13,17 +13,15 @@ use Rattle.card.specs.Steps.{Step, state_after, answer_of}
 use Rattle.fitted.specs.declared.card.Passed.{Passed}
 use Rattle.fitted.specs.declared.run.Next.{Next}
 use Rattle.fitted.specs.declared.run.Next.TheVariants as next
-use Rattle.fitted.specs.declared.run.Run.{Run}
-use Rattle.fitted.specs.declared.run.Run.TheVariants as run
 use Rattle.fitted.specs.Meanings.{Meaning, with_replica}
 use Rattle.fitted.specs.Nexts as nexts
-use Rattle.fitted.specs.Runs.{past, running, passing, ran_by, ran}
+use Rattle.fitted.specs.Runs.{running, passing, ran_by, ran}
 use Rattle.group.specs.declared.calls.Call.{Call}
 use Rattle.group.specs.declared.calls.Call.TheVariants as call
 use Rattle.group.specs.Groups.{one_of, seat_of, step_of, asked_by}
 use Rattle.group.specs.Groups as order
 use Rattle.group.proofs.Calling.{set_same}
-use Rattle.cabinets.specs.declared.answer.Answer.TheVariants.{Ordered, Ran}
+use Rattle.cabinets.specs.declared.answer.Answer.TheVariants.{Ordered}
 use Rattle.cabinets.specs.Groups.{Group, cards_on, answer_on, noted, called, after}
 
 abbrev pub replica_of : {R : Rule} → Meaning R → Replica

@@ -1,6 +1,5 @@
 -- One call after another, as the code makes them.
-use Rattle.std.proofs.Common.{◌≡◌, ℕ, ◌+◌, ◌<◌, List, [], ◌∷◌, ◌++◌, length, get_or, drop, set, Some, None, Option, sym, refl, ap, ◌∙◌, append_assoc, length-set}
-use Rattle.std.specs.List.{slice_get}
+use Rattle.std.proofs.Common.{◌≡◌, ℕ, ◌+◌, ◌<◌, List, [], ◌∷◌, ◌++◌, length, get_or, drop, Option, sym, ap, ◌∙◌, append_assoc}
 use Rattle.std.proofs.lemmas.List.{at_drop_more}
 use Rattle.command.specs.declared.Command.{Command}
 use Rattle.block.specs.declared.message.Message.{Message}
@@ -10,7 +9,7 @@ use Rattle.group.specs.declared.calls.Call.{Call}
 use Rattle.group.specs.Groups.{one_of, seat_of}
 use Rattle.cabinets.specs.declared.answer.Answer.{Answer}
 use Rattle.cabinets.specs.declared.answer.Ran.{Ran}
-use Rattle.cabinets.specs.Groups.{Group, message_in, command_in, ran_in, card_after, cards_on, cards_after, answered, called, after, answers_to}
+use Rattle.cabinets.specs.Groups.{Group, message_in, command_in, ran_in, cards_after, answered, called, after, answers_to}
 
 module _ (R : Rule) where
   abbrev pub built : List (Meaning R) → List Message → List Command → List Ran → Group R

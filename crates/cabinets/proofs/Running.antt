@@ -1,13 +1,10 @@
 -- What a card has run is a walk through what it has committed.
-use Rattle.std.proofs.Common.{◌≡◌, ℕ, zero, suc, ◌+◌, ◌-◌, ◌<◌, ◌≤◌, Bool, true, false, cond, ◌&&◌, eqb, ltb, leb, ◌⊎◌, List, [], ◌∷◌, ◌++◌, map, length, get_or, Some, None, Option, sym, refl, ap, ◌∙◌, subst, inl, inr, append-nil, add-one, arith}
+use Rattle.std.proofs.Common.{◌≡◌, ℕ, suc, ◌<◌, Bool, true, false, cond, ◌&&◌, ltb, ◌⊎◌, List, [], ◌∷◌, ◌++◌, map, get_or, Some, sym, refl, ap, ◌∙◌, subst, inl, inr, append-nil, add-one, arith}
 use mathlib.Core.List.{map-append}
 use Rattle.std.specs.List.{slice_get}
-use Rattle.std.proofs.lemmas.Bool.{cases_Bool, cases_eq, cases_lt}
 use Rattle.std.proofs.lemmas.Bool.Decides.{nat_tests}
 use Rattle.command.specs.declared.Command.{Command}
-use Rattle.agreement.specs.Lists.{In}
-use Rattle.agreement.specs.Logs.{Log, Log.pilot, Log.copilot, Content.content, Committed as Keeps}
-use Rattle.agreement.specs.Logs as logs
+use Rattle.agreement.specs.Logs.{Log, Log.pilot, Log.copilot, Committed as Keeps}
 use Rattle.agreement.specs.Walks.{Step, Step.step, once_each, Walk, Walk.skip_pilot, Walk.skip_copilot, Walk.run_pilot, Walk.run_copilot}
 use Rattle.block.specs.declared.message.Value.{Value}
 use Rattle.block.specs.declared.message.Value.TheVariants as value
@@ -15,28 +12,27 @@ use Rattle.column.specs.Cells.{Stage.committed}
 use Rattle.entry.specs.declared.entry.Entry.{Entry}
 use Rattle.entry.specs.declared.entry.State.{State}
 use Rattle.entry.specs.declared.entry.State.TheVariants.{Empty, Answered, Accepted, Committed}
-use Rattle.entry.specs.Entries.{empty, is_committed}
+use Rattle.entry.specs.Entries.{is_committed}
 use Rattle.machine.specs.Onces.{known, full}
 use Rattle.machine.specs.Rules.{Rule, run}
 use Rattle.card.specs.declared.replica.Replica.{Replica}
-use Rattle.card.specs.Tables.{absent, log_of, entry_at}
+use Rattle.card.specs.Tables.{absent, log_of}
 use Rattle.fitted.specs.declared.card.Passed.{Passed}
 use Rattle.fitted.specs.declared.run.Next.{Next}
 use Rattle.fitted.specs.declared.run.Next.TheVariants as next
 use Rattle.fitted.specs.declared.run.Run.{Run}
 use Rattle.fitted.specs.declared.run.Run.TheVariants as runs
 use Rattle.fitted.specs.Meanings.{Meaning}
-use Rattle.fitted.specs.Nexts.{ahead, ready_by, is_ready, awaited, next_by}
-use Rattle.fitted.specs.Nexts as nexts
-use Rattle.fitted.specs.Runs.{past_pilot, past_copilot, past, running, passing, ran_by, ran}
+use Rattle.fitted.specs.Nexts.{ahead, ready_by, awaited, next_by}
+use Rattle.fitted.specs.Runs.{past_pilot, past_copilot, past, passing, ran_by, ran}
 use Rattle.group.specs.Groups as order
-use Rattle.group.specs.Views.{number_of, value_of, content_of, stage_of, cell_of, cell_on, cell_at}
+use Rattle.group.specs.Views.{number_of, content_of, stage_of, cell_on, cell_at}
 use Rattle.group.specs.Agreements.{KeptOn}
 use Rattle.cabinets.specs.declared.answer.Listed.{Listed}
 use Rattle.cabinets.specs.Groups.{listed}
 use Rattle.cabinets.specs.Promises.{commands_in, command_identity}
-use Rattle.cabinets.proofs.Listing.{command_of, once_more, list_append}
-use Rattle.cabinets.proofs.Telling.{told, told_append, told_commands, run_more}
+use Rattle.cabinets.proofs.Listing.{command_of, once_more}
+use Rattle.cabinets.proofs.Telling.{told, told_append, run_more}
 
 -- the card m, which had the machine x handed to it, has run the list: a walk through what C has committed, with each identity once
 pub record RanSo (R : Rule) (C : Keeps) (m : Meaning R) (x : R.State) (list : List Listed) : Type 0 where

@@ -1,27 +1,12 @@
 -- In every group that calls make of a new one, each card has run a walk.
-use Rattle.std.proofs.Common.{◌≡◌, ℕ, zero, suc, ◌<◌, ◌≤◌, Bool, true, false, cond, eqb, ◌⊎◌, List, [], ◌∷◌, ◌++◌, map, length, set, Some, None, Ok, Err, Option, Result, sym, refl, ap, ◌∙◌, subst, inl, inr, append_assoc, append-nil, arith, length-set}
+use Rattle.std.proofs.Common.{◌≡◌, ℕ, zero, suc, ◌<◌, true, false, eqb, List, [], ◌∷◌, ◌++◌, length, set, Some, None, Option, sym, refl, ap, ◌∙◌, subst, inl, inr, append-nil, arith, length-set}
 use Rattle.std.specs.List.{slice_get}
 use Rattle.std.proofs.lemmas.List.{length-map}
-use Rattle.std.proofs.lemmas.Option.{slice_get-get_or}
-use Rattle.std.proofs.lemmas.Bool.{cases_Bool, cases_eq}
+use Rattle.std.proofs.lemmas.Bool.{cases_eq}
 use Rattle.std.proofs.lemmas.Bool.Decides.{nat_tests}
-use Rattle.command.specs.declared.Command.{Command}
-use Rattle.agreement.specs.Lists.{In, Agree, Distinct}
-use Rattle.agreement.specs.Logs.{Log}
-use Rattle.agreement.specs.Walks.{Step, Step.step, once_each, same_identity, identity_of, Walk.start}
-use Rattle.agreement.proofs.Lists.{firsts_distinct}
-use Rattle.block.specs.declared.message.Message.{Message}
-use Rattle.block.specs.declared.message.Value.{Value}
-use Rattle.block.specs.declared.message.Value.TheVariants as value
-use Rattle.entry.specs.declared.entry.Entry.{Entry}
-use Rattle.machine.specs.declared.rule.Machine.{Ghosts}
+use Rattle.agreement.specs.Walks.{Walk.start}
 use Rattle.machine.specs.Rules.{Rule}
 use Rattle.card.specs.declared.replica.Replica.{Replica}
-use Rattle.card.specs.declared.refusal.Refusal.{Refusal}
-use Rattle.card.specs.declared.refusal.Refusal.TheVariants.{NoSuchEntry}
-use Rattle.card.specs.Groups.{is_group}
-use Rattle.card.specs.Making.{new_replica, looked_up}
-use Rattle.card.specs.Tables.{is_placed, entry_at}
 use Rattle.fitted.specs.declared.run.Run.{Run}
 use Rattle.fitted.specs.declared.run.Run.TheVariants as runs
 use Rattle.fitted.specs.Makes.{new_meaning}
@@ -31,19 +16,16 @@ use Rattle.group.specs.declared.calls.Call.{Call}
 use Rattle.group.specs.declared.calls.Call.TheVariants as call
 use Rattle.group.specs.Groups.{one_of, seat_of}
 use Rattle.group.specs.Groups as order
-use Rattle.group.specs.Agreements.{KeptOn, Orders, Holds}
-use Rattle.group.specs.Agreements as agreements
-use Rattle.group.proofs.Agreeing.{groups_agree, groups_order}
+use Rattle.group.specs.Agreements.{KeptOn, Orders}
+use Rattle.group.proofs.Agreeing.{groups_order}
 use Rattle.group.proofs.Grouping.{at_inside, at_here, at_other}
 use Rattle.cabinets.specs.declared.answer.Answer.{Answer}
 use Rattle.cabinets.specs.declared.answer.Answer.TheVariants.{Ordered, Ran, NoSuchSeat}
 use Rattle.cabinets.specs.declared.answer.Listed.{Listed}
-use Rattle.cabinets.specs.Groups.{Group, ordered, card_after, answer_from, ran_by, ran_in, cards_on, answer_on, called, after, New}
-use Rattle.cabinets.specs.Makes.{either, makes}
-use Rattle.cabinets.specs.Promises.{Commits, list_in, list_of, commands_of, command_identity, OneKind, Promise, Always, Kept}
-use Rattle.cabinets.proofs.Ordering.{replica_of, orders, nth_map, orders_called, orders_after}
-use Rattle.cabinets.proofs.Listing.{command_of, agree_map, in_map, distinct_commands, in_once, list_append}
-use Rattle.cabinets.proofs.Telling.{same_places}
+use Rattle.cabinets.specs.Groups.{Group, card_after, answer_from, ran_by, ran_in, cards_on, answer_on, called, after, New}
+use Rattle.cabinets.specs.Promises.{list_in}
+use Rattle.cabinets.proofs.Ordering.{replica_of, orders, nth_map, orders_called}
+use Rattle.cabinets.proofs.Listing.{list_append}
 use Rattle.cabinets.proofs.Running.{RanSo, pairs_of, ran_goes}
 
 -- what a run adds to the list of its seat, and to no other

@@ -1,9 +1,9 @@
 -- What a machine answers to a list of commands.
-use Rattle.std.proofs.Common.{◌≡◌, ℕ, ◌⊎◌, List, [], ◌∷◌, ◌++◌, map, Some, sym, refl, ap, ◌∙◌, inl, inr}
+use Rattle.std.proofs.Common.{◌≡◌, ℕ, List, [], ◌∷◌, ◌++◌, map, Some, sym, refl, ap, ◌∙◌, inl, inr}
 use Rattle.std.specs.List.{slice_get}
 use Rattle.command.specs.declared.Command.{Command}
 use Rattle.agreement.specs.Lists.{Agree}
-use Rattle.machine.specs.OneRules.{OneRule, OneState}
+use Rattle.machine.specs.OneRules.{OneRule}
 use Rattle.machine.specs.Rules.{Rule, run}
 use Rattle.cabinets.specs.declared.answer.Listed.{Listed}
 use Rattle.cabinets.specs.Groups.{listed}

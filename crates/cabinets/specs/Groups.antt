@@ -1,5 +1,5 @@
 -- A group of cards with their machines, and what it comes to under calls.
-use Rattle.std.specs.Prelude.{◌≡◌, ℕ, ◌<◌, true, List, [], ◌∷◌, ◌++◌, length, Some, None, Ok, Err, Option, slice_set}
+use Rattle.std.specs.Prelude.{◌≡◌, ℕ, true, List, [], ◌∷◌, ◌++◌, length, Some, None, Ok, Err, Option, slice_set}
 use Rattle.std.specs.List.{slice_get}
 use Rattle.command.specs.declared.Command.{Command}
 use Rattle.block.specs.declared.message.Message.{Message}

@@ -2,7 +2,7 @@
 use Rattle.std.specs.Prelude.{◌≡◌, ℕ, Bool, true, false, ◌&&◌, List, [], ◌∷◌, replicate, Some, None, Ok, Err, Option, Result, ◌==◌, refl}
 use Rattle.command.specs.declared.Command.{Command}
 use Rattle.block.specs.declared.message.Destination.TheVariants.{All, Seat}
-use Rattle.block.specs.declared.message.Kind.TheVariants.{FastAccept, FastAcceptOk, FastAcceptReply, Accept, Commit, Prepare, PrepareOk, Reject}
+use Rattle.block.specs.declared.message.Kind.TheVariants.{FastAccept, FastAcceptOk, FastAcceptReply, Accept, Commit, Reject}
 use Rattle.block.specs.declared.message.Message.{Message}
 use Rattle.block.specs.declared.message.Report.TheVariants as report
 use Rattle.block.specs.declared.message.Value.{Value}

@@ -1,8 +1,5 @@
-use Rattle.std.proofs.Common.{◌≡◌, ◌<◌, ◌≤◌, List, [], ◌∷◌, ◌++◌, length, None, vec_items, vec_len, vec_capacity, sym, refl, ap, ◌∙◌, subst, append_assoc, arith, rules}
+use Rattle.std.proofs.Common.{◌≡◌, ◌<◌, [], ◌∷◌, ◌++◌, length, vec_items, vec_len, sym, refl, ap, ◌∙◌, append_assoc, arith}
 use Rattle.std.specs.Vec.Iter.{into_iter_items}
-use Rattle.fitted.specs.declared.make.NotMade.{NotMade}
-use Rattle.fitted.specs.declared.make.NotMade.TheVariants.{Refused, NoMemory}
-use Rattle.cabinets.specs.New.{NotMadeFor}
 use Rattle.cabinets.proofs.Making.{group_seat, refused_none, fitted_none, fitted_next, all_fitted}
 use Rattle.cabinets.proofs.make.fit_all.Goals as goal
 

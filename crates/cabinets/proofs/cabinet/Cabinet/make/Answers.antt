@@ -1,4 +1,4 @@
-use Rattle.std.proofs.Common.{◌≡◌, map, length, vec_items, sym, ap, ◌∙◌, subst, rules}
+use Rattle.std.proofs.Common.{◌≡◌, map, length, vec_items, sym, ap, ◌∙◌, subst}
 use Rattle.cabinets.specs.Cabinets.{group_of}
 use Rattle.cabinets.specs.Groups.{New}
 use Rattle.cabinets.specs.Makes.{makes}

@@ -1,4 +1,4 @@
-use Rattle.std.proofs.Common.{◌≡◌, sym, ap, ◌∙◌}
+use Rattle.std.proofs.Common.{sym, ap, ◌∙◌}
 use Rattle.fitted.specs.Makes.{new_meaning}
 use Rattle.cabinets.specs.Makes.{makes}
 use Rattle.cabinets.specs.New.{start_of}
