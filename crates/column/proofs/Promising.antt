@@ -19,9 +19,11 @@ module _ (n f : ℕ) (owner : Log → ℕ) (holder : ℕ → ℕ) {h : List Note
   -- The report has what the seat accepted last, tells whether it voted, and rests on the history.
   latest_at : (st : Stage) → e.stage ≡ st → (st ≡ committed → ⊥) → Latest n f owner h g i s (past_of (report_at_stage st e))
   latest_at empty p q = λ k j. let m = at.fit.shown k j in grind arith
-  latest_at answered p q =
-      let none_yet : (k : ℕ) → In (note g i (accept s k)) h → ⊥ = λ k j. let m = at.fit.shown k j in grind arith in
-      elim e.voted as (λ y. Latest n f owner h g i s (past_of (cond y (vouched e.value) bare))) [ true ↦ none_yet | false ↦ none_yet ]
+  latest_at answered p q = by e.voted refl
+    where
+      by : (y : Bool) → e.voted ≡ y → Latest n f owner h g i s (past_of (report_at_stage answered e))
+      by true z = rw z (λ k j. let m = at.fit.shown k j in grind arith)
+      by false z = rw z (λ k j. let m = at.fit.shown k j in grind arith)
   latest_at accepted p q = ((at.fit.latest p).0, (at.fit.latest p).1, at.fit.highest p)
   latest_at committed p q = absurd (q refl)
 
