@@ -10,7 +10,7 @@ use Rattle.machine.specs.Onces.{known, full}
 use Rattle.machine.specs.Rules.{Rule}
 use Rattle.card.specs.declared.replica.Replica.{Replica}
 use Rattle.card.specs.Steps.{Step, state_after, answer_of}
-use Rattle.fitted.specs.declared.card.Passed.{Passed}
+use Rattle.fitted.specs.declared.fitting.Passed.{Passed}
 use Rattle.fitted.specs.declared.run.Next.{Next}
 use Rattle.fitted.specs.declared.run.Next.TheVariants as next
 use Rattle.fitted.specs.Meanings.{Meaning, with_replica}

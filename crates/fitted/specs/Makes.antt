@@ -4,8 +4,8 @@ use Rattle.machine.specs.Rules.{Rule}
 use Rattle.card.specs.declared.refusal.Refusal.TheVariants.{NoSuchGroup}
 use Rattle.card.specs.Groups.{is_group}
 use Rattle.card.specs.Making.{new_replica}
-use Rattle.fitted.specs.declared.card.Card.{Card}
-use Rattle.fitted.specs.declared.card.Passed.{Passed}
+use Rattle.fitted.specs.declared.fitting.Card.{Card}
+use Rattle.fitted.specs.declared.fitting.Passed.{Passed}
 use Rattle.fitted.specs.declared.make.NotMade.{NotMade}
 use Rattle.fitted.specs.declared.make.NotMade.TheVariants.{Refused, NoMemory}
 use Rattle.fitted.specs.Meanings.{Meaning, meaning_of}

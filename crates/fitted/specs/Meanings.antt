@@ -4,8 +4,8 @@ use Rattle.command.specs.declared.Identity.{Identity}
 use Rattle.machine.specs.Rules.{Rule}
 use Rattle.machine.specs.Meanings.{once_means}
 use Rattle.card.specs.declared.replica.Replica.{Replica}
-use Rattle.fitted.specs.declared.card.Card.{Card}
-use Rattle.fitted.specs.declared.card.Passed.{Passed}
+use Rattle.fitted.specs.declared.fitting.Card.{Card}
+use Rattle.fitted.specs.declared.fitting.Passed.{Passed}
 
 -- its ordering state, the last entry passed in each log, the state of its machine, and the identities that have run
 pub record Meaning (R : Rule) : Type 0 where

@@ -6,7 +6,7 @@ use Rattle.entry.specs.declared.entry.Entry.{Entry}
 use Rattle.entry.specs.Entries.{empty, is_committed}
 use Rattle.card.specs.declared.replica.Replica.{Replica}
 use Rattle.card.specs.Tables.{entry_at}
-use Rattle.fitted.specs.declared.card.Passed.{Passed}
+use Rattle.fitted.specs.declared.fitting.Passed.{Passed}
 use Rattle.fitted.specs.declared.run.Next.{Next}
 use Rattle.fitted.specs.declared.run.Next.TheVariants.{Pilot, Copilot, Waits}
 use Rattle.fitted.specs.declared.run.Place.{Place}

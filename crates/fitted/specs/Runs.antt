@@ -5,7 +5,7 @@ use Rattle.block.specs.declared.message.Value.{Value}
 use Rattle.block.specs.declared.message.Value.TheVariants as value
 use Rattle.machine.specs.Onces.{known, full}
 use Rattle.machine.specs.Rules.{Rule}
-use Rattle.fitted.specs.declared.card.Passed.{Passed}
+use Rattle.fitted.specs.declared.fitting.Passed.{Passed}
 use Rattle.fitted.specs.declared.run.Next.{Next}
 use Rattle.fitted.specs.declared.run.Next.TheVariants as next
 use Rattle.fitted.specs.declared.run.Place.{Place}

@@ -1,7 +1,7 @@
 // A new card.
 ghost use Rattle.fitted.specs.Makes.{MadeCard};
 
-use crate::card::{Card, Passed};
+use crate::fitting::{Card, Passed};
 use card::{Refusal, Replica};
 use machine::{Once, Plain};
 use std::alloc::Global;

@@ -8,7 +8,7 @@ ghost use Rattle.card.specs.Settling.{settle};
 ghost use Rattle.card.specs.Taking.{takeover};
 ghost use Rattle.fitted.specs.Meanings.{meaning_of, with_replica};
 
-use crate::card::Card;
+use crate::fitting::Card;
 use block::Message;
 use card::Refusal;
 use command::Command;

@@ -6,7 +6,7 @@ ghost use Rattle.fitted.specs.Meanings.{meaning_of};
 ghost use Rattle.fitted.specs.Nexts.{ahead, is_ready, awaited, next as next_of};
 ghost use Rattle.fitted.specs.Runs.{past_pilot, past_copilot, running, passing, ran};
 
-use crate::card::{Card, Passed};
+use crate::fitting::{Card, Passed};
 use crate::run::{Next, Place, Run};
 use block::Value;
 use card::Replica;

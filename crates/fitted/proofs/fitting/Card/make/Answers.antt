@@ -1,5 +1,5 @@
 use Rattle.fitted.specs.Makes.{none_passed}
-use Rattle.fitted.proofs.card.Card.make.Goals as goal
+use Rattle.fitted.proofs.fitting.Card.make.Goals as goal
 
 -- part by part: the replica is new, and so is the layer over the machine
 pub returns-in-Ok-new : goal.returns-in-Ok-new
