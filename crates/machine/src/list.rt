@@ -3,7 +3,7 @@ ghost use Rattle.std.specs.Prelude.{◌≡◌, ◌<◌, ◌≤◌, true, IfOk, v
 ghost use Rattle.machine.specs.Catalogues.{catalogue, catalogued};
 ghost use Rattle.machine.specs.Cells.{cells_steady};
 ghost use Rattle.machine.specs.Listing.{listed, tabled, Stands};
-ghost use Rattle.std.proofs.Common.{rules, arith};
+ghost use Rattle.std.proofs.Common.{rules};
 
 use crate::catalogue::{BAYS, settle};
 use crate::operation::Operation;
@@ -120,5 +120,5 @@ impl Machine for ListCatalogue {
 }
 
 impl Plain for ListCatalogue {
-    ghost low = { first_of (Prim.search rules, Prim.grind (arith, Self.row.coded.inj)) };
+    ghost low = { Prim.search rules };
 }
