@@ -1,7 +1,7 @@
 pub mod Bytes
 pub mod Lowest
 pub mod Messages
-pub mod Tail
+pub mod FromFn
 pub mod Blocks
 pub mod Trips
 pub mod Validity

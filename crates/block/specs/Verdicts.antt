@@ -1,5 +1,6 @@
 -- What a reader and a writer answer.
-use Rattle.std.specs.Prelude.{ℕ, zero, suc, Bool, true, cond, ◌&&◌, List, [], ◌∷◌, length, drop, Some, None, Ok, Err, Option, Result, ◌==◌, slice_index}
+use Rattle.std.specs.Prelude.{ℕ, zero, suc, Bool, cond, List, length, drop, Some, None, Ok, Err, Option, Result, ◌==◌, slice_index}
+use Rattle.std.specs.List.{list_all}
 use Rattle.std.specs.Option.{option_map}
 use Rattle.block.specs.declared.fault.Fault.{Fault}
 use Rattle.block.specs.declared.fault.Fault.TheVariants.{Length, Range, Misfit}
@@ -28,8 +29,7 @@ unfoldable pub misfit_fault : List ℕ → Option Fault
 misfit_fault ws = option_map Misfit (lowest (fits ws) 15)
 
 abbrev pub all_zero : List ℕ → Bool
-all_zero [] = true
-all_zero (b ∷ bs) = b == 0 && all_zero bs
+all_zero bs = list_all (λ b. b == 0) bs
 
 -- a byte after the words that is not zero is out of range, as word 15
 unfoldable pub tail_fault : List ℕ → Option Fault

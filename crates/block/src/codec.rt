@@ -1,32 +1,35 @@
 // The reader and the writer.
-ghost use Rattle.std.specs.Prelude.{◌≡◌, ◌≤◌, length, IfOk, Ok, OnOk};
+ghost use Rattle.std.specs.Prelude.{◌≡◌, drop, length, IfOk, Ok, OnOk};
 ghost use Rattle.std.specs.Option.{option_map};
 ghost use Rattle.block.specs.Faults.{numbered, refusal};
 ghost use Rattle.block.specs.Laws.{ReadsBack, Rewrites};
 ghost use Rattle.block.specs.Valid.{Valid};
-ghost use Rattle.block.specs.Verdicts.{decode, block_fault, tail_fault, unless_fault, message_fault, encoded, buffered};
+ghost use Rattle.block.specs.Verdicts.{all_zero, decode, block_fault, tail_fault, unless_fault, message_fault, encoded, buffered};
 
 use crate::fault::Fault;
 use crate::fits::check_fits;
 use crate::message::Message;
 use crate::place::WORDS;
 use crate::ranges::check_ranges;
-use crate::words::{put_words, words_of};
+use crate::words::{block_of, words_of};
 
 const SIZE: usize = 512;
 
+fn is_tail_clear(block: &[u8; SIZE]) -> bool
+    ensures { result ≡ all_zero (drop 60 block.now) }
+{
+    block.iter().skip(4 * WORDS).all(|byte| *byte == 0)
+}
+
 // Refuses a byte after the words that is not zero.
-fn check_tail(block: &[u8]) -> Result<(), Fault>
-    requires { 60 ≤ length block.now }
+fn check_tail(block: &[u8; SIZE]) -> Result<(), Fault>
     ensures { result ≡ unless_fault (tail_fault block.now) tt }
 {
-    let tail = &block[4 * WORDS..];
-    for byte in tail {
-        if *byte != 0 {
-            return Err(Fault::Range(WORDS));
-        }
+    if is_tail_clear(block) {
+        Ok(())
+    } else {
+        Err(Fault::Range(WORDS))
     }
-    Ok(())
 }
 
 // The message that a block holds, or what is wrong with the block.
@@ -36,9 +39,7 @@ pub fn read_block(block: &[u8]) -> Result<Message, Fault>
     ensures valid { IfOk result (λ m. Valid m) }
     ensures rewrites { IfOk result (λ m. encoded m ≡ block.now) }
 {
-    if block.len() != SIZE {
-        return Err(Fault::Length);
-    }
+    let block = <&[u8; SIZE]>::try_from(block).map_err(|_| Fault::Length)?;
     let words = words_of(block);
     check_ranges(&words)?;
     check_tail(block)?;
@@ -59,7 +60,7 @@ pub fn write_block(message: &Message, buffer: &mut [u8]) -> Result<(), Fault>
     let words = message.words();
     check_ranges(&words)?;
     check_fits(&words)?;
-    put_words(&words, buffer);
+    buffer.copy_from_slice(&block_of(&words));
     Ok(())
 }
 

@@ -18,15 +18,18 @@ pub enum Kind {
     Reject = 9,
 }
 
-impl Kind {
-    // The number that stands for the kind in a block.
-    pub fn number(self) -> u32
-        ensures { result ≡ kind_number self }
-    {
-        self as u32
-    }
+// The number that stands for the kind in a block.
+impl From<Kind> for u32 {
+    ghost from_gives = { λ kind number. number ≡ kind_number kind };
 
-    // The kind with that number; 9, and any number that is out of range, is `Reject`.
+    fn from(kind: Kind) -> u32 {
+        kind as u32
+    }
+}
+
+impl Kind {
+    // The kind with that number; 9, and any number that is out of range, is `Reject`. A reader has refused those before, so a
+    // `TryFrom` here would have an error that never comes.
     pub(crate) fn of_number(number: u32) -> Kind
         ensures { result ≡ kind_of number }
     {
@@ -99,15 +102,7 @@ impl Value {
         ensures { result ≡ asked_by self }
     {
         match self {
-            Value::Nothing | Value::Noop => Command {
-                identity: Identity {
-                    client: 0,
-                    number: 0,
-                },
-                operation: 0,
-                bay: 0,
-                amount: 0,
-            },
+            Value::Nothing | Value::Noop => Command::default(),
             Value::Command(command) => command,
         }
     }
@@ -184,7 +179,7 @@ impl Message {
     {
         let command = self.value.asked();
         [
-            self.kind.number(),
+            u32::from(self.kind),
             self.from,
             self.to.word(),
             self.log,

@@ -50,8 +50,11 @@ answers r m e = (
 )
 
 -- an entry that was counted on, and what all are told of it
+abbrev pub stores : Replica → ℕ → ℕ → Entry × Progress → Turn
+stores r log i p = (with_entry r log i p.0, announced r.seat log i p.0 p.1)
+
 abbrev pub counts : Replica → Message → Entry × Progress → Turn
-counts r m p = (with_entry r m.log m.entry p.0, announced r.seat m.log m.entry p.0 p.1)
+counts r m p = stores r m.log m.entry p
 
 -- an answer to this card's own proposal
 unfoldable pub hears : Replica → Message → Entry → Answer → Turn

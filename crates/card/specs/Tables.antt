@@ -1,7 +1,8 @@
 -- The table of a card: two logs of 128 entries, numbered from 1.
 use Rattle.std.specs.Prelude.{ℕ, ◌-◌, ◌≤◌, Bool, false, ◌&&◌, List, [], drop, is_some, Option, nat_le, nat_lt, slice_index_or, slice_set}
 use Rattle.block.specs.declared.message.Value.TheVariants.{Nothing}
-use Rattle.scan.specs.Scans.{first_at, highest_of}
+use Rattle.std.specs.List.{position_from}
+use Rattle.scan.specs.Scans.{highest_of}
 use Rattle.entry.specs.declared.entry.Entry.{Entry}
 use Rattle.entry.specs.declared.entry.State.TheVariants.{Empty}
 use Rattle.entry.specs.declared.takeover.Takeover.{Takeover}
@@ -47,7 +48,7 @@ highest_taken r log = highest_of is_taken (log_of r log)
 
 -- the other log has an entry above d that this card answered with a dependency below i
 abbrev pub is_blocked : Replica → ℕ → ℕ → ℕ → Bool
-is_blocked r log i d = is_some (first_at (blocks i) d (drop d (log_of r (1 - log))))
+is_blocked r log i d = is_some (position_from (blocks i) d (drop d (log_of r (1 - log))))
 
 -- a held entry of the other log waits for entry i or a later one
 abbrev pub is_awaited : Replica → ℕ → ℕ → Bool

@@ -1,132 +1,131 @@
 // A card takes a block in.
 ghost use Rattle.std.specs.Prelude.{◌≡◌};
-ghost use Rattle.block.specs.Valid.{Valid};
 ghost use Rattle.card.specs.Steps.{state_after, answer_of};
-ghost use Rattle.card.specs.Tables.{entry_at};
-ghost use Rattle.card.specs.Delivering.{answers, hears, acknowledges_owner, acknowledges_takeover, reports, turn, deliver};
+ghost use Rattle.card.specs.Delivering.{answers, stores, hears, acknowledges_owner, acknowledges_takeover, reports, turn, deliver};
 
+use crate::delivered::Delivered;
 use crate::messages::{accept_ok, announce, commit, fast_answer, prepare_ok, reject};
+use crate::place::Place;
 use crate::refusal::Refusal;
 use crate::replica::Replica;
 use block::{Destination, Kind, Message, Value, read_block};
-use entry::{Answer, Entry, Reported, State};
+use entry::{Answer, Entry, Progress, Reported, State};
 
 impl Replica {
     // Stores a proposal with this card's answer: a vote, or, where it is blocked, a reply with all that this card holds.
-    fn answer(&mut self, m: &Message, held: Entry) -> Option<Message>
-        requires { Valid m.now }
-        ensures { (self.new, result) ≡ answers self.old m.now held }
+    fn answer(&mut self, d: &Delivered, held: Entry) -> Option<Message>
+        ensures { (self.new, result) ≡ answers self.old d.now.message held }
     {
-        let held = if self.is_blocked(m.log, m.entry, m.dependency) {
+        let m = &d.message;
+        let at = d.place();
+        let held = if self.is_blocked(at, m.dependency) {
             held.answer(m.value, m.dependency, self.highest_held(1 - m.log), false)
         } else {
             held.answer(m.value, m.dependency, m.dependency, true)
         };
-        self.change(m.log, m.entry, held);
-        Some(fast_answer(self.seat, m.from, m.log, m.entry, &held))
+        self.change(at, held);
+        Some(fast_answer(self.seat, m.from, at, &held))
+    }
+
+    // Stores an entry that was counted on, and tells all what it came to.
+    fn store(&mut self, at: Place, held: Entry, progress: Progress) -> Option<Message>
+        ensures { (self.new, result) ≡ stores self.old at.log at.entry (held, progress) }
+    {
+        self.change(at, held);
+        announce(self.seat, at, &held, progress)
     }
 
     // An answer to this card's own proposal.
-    fn hear_answer(&mut self, m: &Message, held: Entry, answer: Answer) -> Option<Message>
-        requires { Valid m.now }
-        ensures { (self.new, result) ≡ hears self.old m.now held answer }
+    fn hear_answer(&mut self, d: &Delivered, held: Entry, answer: Answer) -> Option<Message>
+        ensures { (self.new, result) ≡ hears self.old d.now.message held answer }
     {
-        let (held, progress) = held.hear_answer(self.n, self.seat, m.from, answer);
-        self.change(m.log, m.entry, held);
-        announce(self.seat, m.log, m.entry, &held, progress)
+        let (held, progress) = held.hear_answer(self.n, self.seat, d.message.from, answer);
+        self.store(d.place(), held, progress)
     }
 
     // A seat accepted what this card, the owner, settled on.
-    fn hear_owner_accept(&mut self, m: &Message, held: Entry) -> Option<Message>
-        requires { Valid m.now }
-        ensures { (self.new, result) ≡ acknowledges_owner self.old m.now held }
+    fn hear_owner_accept(&mut self, d: &Delivered, held: Entry) -> Option<Message>
+        ensures { (self.new, result) ≡ acknowledges_owner self.old d.now.message held }
     {
-        let (held, progress) = held.hear_accept(self.n, m.from);
-        self.change(m.log, m.entry, held);
-        announce(self.seat, m.log, m.entry, &held, progress)
+        let (held, progress) = held.hear_accept(self.n, d.message.from);
+        self.store(d.place(), held, progress)
     }
 
     // A seat accepted what this card chose in its takeover.
-    fn hear_takeover_accept(&mut self, m: &Message, held: Entry) -> Option<Message>
-        requires { Valid m.now }
-        ensures { (self.new, result) ≡ acknowledges_takeover self.old m.now held }
+    fn hear_takeover_accept(&mut self, d: &Delivered, held: Entry) -> Option<Message>
+        ensures { (self.new, result) ≡ acknowledges_takeover self.old d.now.message held }
     {
-        let Some(takeover) = self.takeover else {
-            return None;
-        };
+        let m = &d.message;
+        let takeover = self.takeover?;
         if !takeover.is_live(m.log, m.entry, m.ballot, &held) {
             return None;
         }
         let (takeover, held, progress) = takeover.hear_accept(held, self.n, m.from);
-        self.change(m.log, m.entry, held);
         self.set_takeover(takeover);
-        announce(self.seat, m.log, m.entry, &held, progress)
+        self.store(d.place(), held, progress)
     }
 
     // A report to this card's takeover.
-    fn hear_report(&mut self, m: &Message, held: Entry) -> Option<Message>
-        requires { Valid m.now }
-        ensures { (self.new, result) ≡ reports self.old m.now held }
+    fn hear_report(&mut self, d: &Delivered, held: Entry) -> Option<Message>
+        ensures { (self.new, result) ≡ reports self.old d.now.message held }
     {
-        let Some(takeover) = self.takeover else {
-            return None;
-        };
-        if !takeover.is_live(m.log, m.entry, m.ballot, &held) {
-            return None;
-        }
+        let m = &d.message;
         let reported = Reported {
             report: m.report,
             value: m.value,
             dependency: m.dependency,
         };
+        let takeover = self.takeover?;
+        if !takeover.is_live(m.log, m.entry, m.ballot, &held) {
+            return None;
+        }
         let (takeover, held, progress) = takeover.hear_report(
             held, self.n, self.seat, m.from, reported,
         );
-        self.change(m.log, m.entry, held);
         self.set_takeover(takeover);
-        announce(self.seat, m.log, m.entry, &held, progress)
+        self.store(d.place(), held, progress)
     }
 
     // What a message does follows from the entry's state and the message's kind together.
-    fn turn(&mut self, m: &Message) -> Result<Option<Message>, Refusal>
-        requires { Valid m.now }
-        ensures state { self.new ≡ state_after self.old (turn self.old m.now) }
-        ensures answer { result ≡ answer_of (turn self.old m.now) }
+    fn turn(&mut self, d: &Delivered) -> Result<Option<Message>, Refusal>
+        ensures state { self.new ≡ state_after self.old (turn self.old d.now.message) }
+        ensures answer { result ≡ answer_of (turn self.old d.now.message) }
     {
-        let held = self.entry(m.log, m.entry);
+        let m = &d.message;
+        let at = d.place();
+        let held = self.entry(at);
         match (held.state, m.kind) {
             (State::Committed, Kind::FastAccept | Kind::Accept | Kind::Prepare) => Ok(Some(commit(
                 self.seat,
                 Destination::Seat(m.from),
-                m.log,
-                m.entry,
+                at,
                 &held,
             ))),
             (_, Kind::FastAccept) if held.promised > 0 => {
-                Ok(Some(reject(self.seat, m.from, m.log, m.entry, &held)))
+                Ok(Some(reject(self.seat, m.from, at, &held)))
             }
-            (State::Empty, Kind::FastAccept) => Ok(self.answer(m, held)),
+            (State::Empty, Kind::FastAccept) => Ok(self.answer(d, held)),
             (State::Answered, Kind::FastAccept) => Ok(Some(fast_answer(
-                self.seat, m.from, m.log, m.entry, &held,
+                self.seat, m.from, at, &held,
             ))),
             (State::Answered, Kind::FastAcceptOk) => {
-                Ok(self.hear_answer(m, held, Answer::Vote(held.dependency)))
+                Ok(self.hear_answer(d, held, Answer::Vote(held.dependency)))
             }
             (State::Answered, Kind::FastAcceptReply) => {
-                Ok(self.hear_answer(m, held, Answer::Reply(m.dependency)))
+                Ok(self.hear_answer(d, held, Answer::Reply(m.dependency)))
             }
             (_, Kind::Accept) if m.ballot < held.promised => {
-                Ok(Some(reject(self.seat, m.from, m.log, m.entry, &held)))
+                Ok(Some(reject(self.seat, m.from, at, &held)))
             }
             (_, Kind::Accept) => {
-                self.change(m.log, m.entry, held.accept(m.ballot, m.value, m.dependency));
-                Ok(Some(accept_ok(self.seat, m.from, m.log, m.entry, m.ballot)))
+                self.change(at, held.accept(m.ballot, m.value, m.dependency));
+                Ok(Some(accept_ok(self.seat, m.from, at, m.ballot)))
             }
             (State::Accepted, Kind::AcceptOk) if m.ballot == 0 => {
-                Ok(self.hear_owner_accept(m, held))
+                Ok(self.hear_owner_accept(d, held))
             }
             (State::Empty | State::Answered | State::Accepted, Kind::AcceptOk) if m.ballot > 0 => {
-                Ok(self.hear_takeover_accept(m, held))
+                Ok(self.hear_takeover_accept(d, held))
             }
             (State::Committed, Kind::Commit) => {
                 if held.value == m.value && held.dependency == m.dependency {
@@ -136,22 +135,22 @@ impl Replica {
                 }
             }
             (_, Kind::Commit) => {
-                self.change(m.log, m.entry, held.commit(m.value, m.dependency));
+                self.change(at, held.commit(m.value, m.dependency));
                 Ok(None)
             }
             (_, Kind::Prepare) if m.ballot <= held.promised => {
-                Ok(Some(reject(self.seat, m.from, m.log, m.entry, &held)))
+                Ok(Some(reject(self.seat, m.from, at, &held)))
             }
             (_, Kind::Prepare) => {
-                self.change(m.log, m.entry, held.promise(m.ballot));
-                Ok(Some(prepare_ok(self.seat, m.from, m.log, m.entry, m.ballot, held.report())))
+                self.change(at, held.promise(m.ballot));
+                Ok(Some(prepare_ok(self.seat, m.from, at, m.ballot, held.report())))
             }
             (State::Empty | State::Answered | State::Accepted, Kind::PrepareOk) => {
-                Ok(self.hear_report(m, held))
+                Ok(self.hear_report(d, held))
             }
             (State::Empty | State::Answered | State::Accepted, Kind::Reject)
                 if held.promised < m.ballot => {
-                self.change(m.log, m.entry, held.promise(m.ballot));
+                self.change(at, held.promise(m.ballot));
                 Ok(None)
             }
             _ => Ok(None),
@@ -163,13 +162,15 @@ impl Replica {
         ensures state { self.new ≡ state_after self.old (deliver self.old block.now) }
         ensures answer { result ≡ answer_of (deliver self.old block.now) }
     {
-        let message = read_block(block)?;
-        if !self.is_mine(&message) {
+        let delivered = Delivered {
+            message: read_block(block)?,
+        };
+        if !self.is_mine(&delivered.message) {
             return Err(Refusal::NotForThisCard);
         }
-        if !self.is_from_peer(&message) {
+        if !self.is_from_peer(&delivered.message) {
             return Err(Refusal::WrongSender);
         }
-        self.turn(&message)
+        self.turn(&delivered)
     }
 }

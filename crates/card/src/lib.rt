@@ -3,10 +3,12 @@
 
 mod checks;
 mod deliver;
+mod delivered;
 mod examples;
 mod fitted;
 mod make;
 mod messages;
+mod place;
 mod propose;
 mod refusal;
 mod replica;

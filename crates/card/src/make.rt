@@ -3,9 +3,9 @@ ghost use Rattle.std.specs.Prelude.{◌≡◌};
 ghost use Rattle.card.specs.Groups.{is_group};
 ghost use Rattle.card.specs.Making.{empty_logs, Made, looked_up};
 
+use crate::place::Place;
 use crate::refusal::Refusal;
 use crate::replica::Replica;
-use crate::table::is_placed;
 use entry::Entry;
 
 fn is_group(n: u32, seat: u32) -> bool
@@ -40,9 +40,7 @@ impl Replica {
     pub fn look_up(&self, log: u32, entry: u32) -> Result<Entry, Refusal>
         ensures { result ≡ looked_up self.now log entry }
     {
-        if !is_placed(log, entry) {
-            return Err(Refusal::NoSuchEntry);
-        }
-        Ok(self.entry(log, entry))
+        let at = Place::of(log, entry)?;
+        Ok(self.entry(at))
     }
 }

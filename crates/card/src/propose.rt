@@ -4,6 +4,7 @@ ghost use Rattle.card.specs.Steps.{state_after, answer_of};
 ghost use Rattle.card.specs.Proposing.{is_nameless, propose};
 
 use crate::messages::fast_accept;
+use crate::place::Place;
 use crate::refusal::Refusal;
 use crate::replica::Replica;
 use block::{Message, Value};
@@ -32,12 +33,15 @@ impl Replica {
         if taken >= 128 {
             return Err(Refusal::LogFull);
         }
-        let entry = taken + 1;
+        let at = Place {
+            log,
+            entry: taken + 1,
+        };
         let dependency = self.highest_held(1 - log);
         let held = self
-            .entry(log, entry)
+            .entry(at)
             .propose(log, Value::Command(command), dependency);
-        self.change(log, entry, held);
-        Ok(Some(fast_accept(log, log, entry, &held)))
+        self.change(at, held);
+        Ok(Some(fast_accept(log, at, &held)))
     }
 }

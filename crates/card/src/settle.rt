@@ -4,9 +4,9 @@ ghost use Rattle.card.specs.Steps.{state_after, answer_of};
 ghost use Rattle.card.specs.Settling.{settle};
 
 use crate::messages::announce;
+use crate::place::Place;
 use crate::refusal::Refusal;
 use crate::replica::Replica;
-use crate::table::is_placed;
 use block::Message;
 use entry::Progress;
 
@@ -15,10 +15,8 @@ impl Replica {
         ensures state { self.new ≡ state_after self.old (settle self.old log entry) }
         ensures answer { result ≡ answer_of (settle self.old log entry) }
     {
-        if !is_placed(log, entry) {
-            return Err(Refusal::NoSuchEntry);
-        }
-        let held = self.entry(log, entry);
+        let at = Place::of(log, entry)?;
+        let held = self.entry(at);
         if log != self.seat || !held.counts_answers() {
             return Err(Refusal::NotOpen);
         }
@@ -26,7 +24,7 @@ impl Replica {
             return Err(Refusal::TooFewAnswers);
         }
         let held = held.settle(self.n, self.seat);
-        self.change(log, entry, held);
-        Ok(announce(self.seat, log, entry, &held, Progress::Accepts))
+        self.change(at, held);
+        Ok(announce(self.seat, at, &held, Progress::Accepts))
     }
 }

@@ -1,9 +1,8 @@
 -- One entry on one card.
-use Rattle.std.specs.Prelude.{ℕ, Bool, true, false, cond, ◌&&◌, ◌||◌, replicate, nat_le, nat_lt}
+use Rattle.std.specs.Prelude.{ℕ, Bool, true, false, cond, ◌&&◌, ◌||◌, replicate, None, nat_le, nat_lt}
 use Rattle.block.specs.declared.message.Value.{Value}
 use Rattle.block.specs.declared.message.Value.TheVariants.{Nothing}
 use Rattle.block.specs.declared.message.Report.TheVariants as report
-use Rattle.entry.specs.declared.answers.Answer.TheVariants.{Unheard}
 use Rattle.entry.specs.declared.answers.Tally.{Tally}
 use Rattle.entry.specs.declared.reports.Reported.{Reported}
 use Rattle.entry.specs.declared.entry.Entry.{Entry}
@@ -35,7 +34,7 @@ entry_of s p b v d a w t =
 
 -- as make gives it
 abbrev pub empty : Entry
-empty = entry_of Empty 0 0 Nothing 0 0 false (record { answers = replicate 7 Unheard; accepts = replicate 7 false })
+empty = entry_of Empty 0 0 Nothing 0 0 false (record { answers = replicate 7 None; accepts = replicate 7 false })
 
 -- held or promised: a proposal goes above every such entry
 abbrev pub is_taken : Entry → Bool

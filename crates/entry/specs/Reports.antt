@@ -1,11 +1,11 @@
 -- The reports that a takeover has gathered, one place for each seat, and what they let it choose.
-use Rattle.std.specs.Prelude.{ℕ, ◌+◌, Bool, true, false, cond, List, [], ◌∷◌, is_some, Some, None, Option, nat_le, slice_index_or}
+use Rattle.std.specs.Prelude.{ℕ, ◌+◌, Bool, true, false, cond, List, is_some, Some, None, Option, count_by, nat_le, slice_index_or}
+use Rattle.std.specs.List.{fold, position}
 use Rattle.block.specs.declared.message.Report.{Report}
 use Rattle.block.specs.declared.message.Report.TheVariants.{Empty, Vote, Accepted}
 use Rattle.block.specs.declared.message.Value.{Value}
 use Rattle.block.specs.declared.message.Value.TheVariants.{Noop}
 use Rattle.block.specs.Messages.{accept_of}
-use Rattle.scan.specs.Scans.{counted, first_at}
 use Rattle.entry.specs.declared.reports.Reported.{Reported}
 use Rattle.entry.specs.Quorums.{majority_of}
 
@@ -36,13 +36,12 @@ abbrev pub better : Option Reported → Option Reported → Option Reported
 better best None = best
 better best (Some r) = better_by r.report best r
 
-abbrev pub best_accepted : Option Reported → List (Option Reported) → Option Reported
-best_accepted best [] = best
-best_accepted best (r ∷ rest) = best_accepted (better best r) rest
+abbrev pub best_accepted : List (Option Reported) → Option Reported
+best_accepted reports = fold better None reports
 
 -- the votes reported; the owner, which voted when it proposed, counts where it has not reported itself
 abbrev pub votes_for : ℕ → List (Option Reported) → ℕ
-votes_for owner reports = counted is_vote_report reports + cond (is_reported (slice_index_or reports owner None)) 0 1
+votes_for owner reports = count_by is_vote_report reports + cond (is_reported (slice_index_or reports owner None)) 0 1
 
 -- f + 1 votes: the proposal may have been committed on the fast path
 abbrev pub may_be_committed : ℕ → ℕ → List (Option Reported) → Bool
@@ -54,7 +53,7 @@ report_at reports (Some seat) = slice_index_or reports seat None
 
 -- the report of the lowest seat that voted
 abbrev pub first_vote : List (Option Reported) → Option Reported
-first_vote reports = report_at reports (first_at is_vote_report 0 reports)
+first_vote reports = report_at reports (position is_vote_report reports)
 
 -- the value and the dependency of a report; a no-op where there is none
 abbrev pub carried_by : Option Reported → Value × ℕ
@@ -64,6 +63,6 @@ carried_by (Some r) = (r.value, r.dependency)
 -- what was accepted at the highest ballot; failing that, with f + 1 votes, what was voted for; else a no-op
 unfoldable pub choice : ℕ → ℕ → List (Option Reported) → Value × ℕ
 choice n owner reports =
-    cond (is_reported (best_accepted None reports))
-    (carried_by (best_accepted None reports))
+    cond (is_reported (best_accepted reports))
+    (carried_by (best_accepted reports))
     (cond (may_be_committed n owner reports) (carried_by (first_vote reports)) (Noop, 0))

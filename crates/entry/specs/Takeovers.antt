@@ -1,6 +1,5 @@
 -- A takeover of an entry by one card.
-use Rattle.std.specs.Prelude.{ℕ, Bool, true, false, cond, not, ◌&&◌, ◌||◌, List, replicate, Some, None, Option, ◌==◌, nat_le, slice_index_or, slice_set}
-use Rattle.scan.specs.Scans.{counted}
+use Rattle.std.specs.Prelude.{ℕ, Bool, true, false, cond, not, ◌&&◌, ◌||◌, List, replicate, Some, None, Option, ◌==◌, count_by, nat_le, slice_index_or, slice_set}
 use Rattle.entry.specs.declared.entry.Entry.{Entry}
 use Rattle.entry.specs.declared.entry.Progress.{Progress}
 use Rattle.entry.specs.declared.entry.Progress.TheVariants.{Waits, Accepts, Commits}
@@ -27,7 +26,7 @@ is_live t log i b e =
 -- at f + 1 reports the card in `seat` chooses, and accepts its choice at its ballot
 abbrev pub gathered : ℕ → ℕ → Takeover → Entry → Takeover × Entry × Progress
 gathered n seat t e =
-    cond (nat_le (majority_of n) (counted is_reported t.reports)) (
+    cond (nat_le (majority_of n) (count_by is_reported t.reports)) (
       takeover_of t.log t.entry t.ballot t.reports true (slice_set t.accepts seat true),
       accepting e t.ballot (choice n t.log t.reports).0 (choice n t.log t.reports).1,
       Accepts,
@@ -45,7 +44,7 @@ reporting n seat t e from r =
 -- at f + 1 seats that accepted the choice, it is committed
 abbrev pub agreed : ℕ → Takeover → Entry → Takeover × Entry × Progress
 agreed n t e =
-    cond (nat_le (majority_of n) (counted (λ a. a) t.accepts))
+    cond (nat_le (majority_of n) (count_by (λ a. a) t.accepts))
     (t, committing e e.value e.dependency, Commits)
     (t, e, Waits)
 

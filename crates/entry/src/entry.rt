@@ -2,13 +2,12 @@
 ghost use Rattle.std.specs.Prelude.{◌≡◌};
 ghost use Rattle.entry.specs.Entries.{state_number, is_held, is_committed, is_taken, blocks, depends_from, empty, promising, answering, accepting, committing, report_of};
 
-use crate::answers::{Answer, Tally};
+use crate::answers::Tally;
 use crate::reports::Reported;
 use block::{Report, Value};
-use scan::Test;
 
 // How far the entry has come here.
-#[derive(Clone, Copy)]
+#[derive(Clone, Copy, PartialEq, Eq, Debug)]
 pub enum State {
     Empty = 0,
     Answered = 1,
@@ -16,24 +15,24 @@ pub enum State {
     Committed = 3,
 }
 
-impl State {
-    pub fn number(self) -> u32
-        ensures { result ≡ state_number self }
-    {
-        self as u32
+impl From<State> for u32 {
+    ghost from_gives = { λ state number. number ≡ state_number state };
+
+    fn from(state: State) -> u32 {
+        state as u32
     }
 }
 
 // What counting an answer, a report or an AcceptOk led to: nothing yet, or that the entry is accepted here or committed, which
 // all are then told.
-#[derive(Clone, Copy)]
+#[derive(Clone, Copy, PartialEq, Eq, Debug)]
 pub enum Progress {
     Waits,
     Accepts,
     Commits,
 }
 
-#[derive(Clone, Copy)]
+#[derive(Clone, Copy, PartialEq, Eq, Debug)]
 pub struct Entry {
     pub state: State,
     // no ballot below this one is obeyed any more
@@ -61,7 +60,7 @@ impl Entry {
             answered: 0,
             vote: false,
             tally: Tally {
-                answers: [Answer::Unheard; 7],
+                answers: [None; 7],
                 accepts: [false; 7],
             },
         }
@@ -77,6 +76,27 @@ impl Entry {
         ensures { result ≡ is_committed self.now.state }
     {
         matches!(self.state, State::Committed)
+    }
+
+    // Held or promised: a proposal goes above every such entry.
+    pub fn is_taken(&self) -> bool
+        ensures { result ≡ is_taken self.now }
+    {
+        self.is_held() || self.promised > 0
+    }
+
+    // Answered here with a dependency below an entry of the other log: the two would not wait for one another.
+    pub fn blocks(&self, entry: u32) -> bool
+        ensures { result ≡ blocks entry self.now }
+    {
+        (self.vote || self.answered > 0) && self.answered < entry
+    }
+
+    // Held, and waits for an entry of the other log or a later one.
+    pub fn depends_from(&self, entry: u32) -> bool
+        ensures { result ≡ depends_from entry self.now }
+    {
+        self.is_held() && entry <= self.dependency
     }
 
     pub fn promise(self, ballot: u32) -> Entry
@@ -146,52 +166,5 @@ impl Entry {
                 dependency: 0,
             },
         }
-    }
-}
-
-#[derive(Clone, Copy)]
-pub struct Held;
-
-impl Test<Entry> for Held {
-    ghost holds = { λ _ e. is_held e.state };
-
-    fn passes(&self, entry: &Entry) -> bool {
-        entry.is_held()
-    }
-}
-
-// Held or promised: a proposal goes above every such entry.
-#[derive(Clone, Copy)]
-pub struct Taken;
-
-impl Test<Entry> for Taken {
-    ghost holds = { λ _ e. is_taken e };
-
-    fn passes(&self, entry: &Entry) -> bool {
-        entry.is_held() || entry.promised > 0
-    }
-}
-
-// Answered here with a dependency below an entry of the other log: the two would not wait for one another.
-#[derive(Clone, Copy)]
-pub struct Blocks(pub u32);
-
-impl Test<Entry> for Blocks {
-    ghost holds = { λ b e. blocks b.0 e };
-
-    fn passes(&self, entry: &Entry) -> bool {
-        (entry.vote || entry.answered > 0) && entry.answered < self.0
-    }
-}
-
-// Held, and waits for an entry of the other log or a later one.
-#[derive(Clone, Copy)]
-pub struct DependsFrom(pub u32);
-
-impl Test<Entry> for DependsFrom {
-    ghost holds = { λ d e. depends_from d.0 e };
-
-    fn passes(&self, entry: &Entry) -> bool {
-        entry.is_held() && self.0 <= entry.dependency
     }
 }

@@ -1,7 +1,6 @@
 // One entry on one card, and one takeover of an entry: what each rule makes of them.
 #![tactic(auto)]
 
-mod accepts;
 mod answers;
 mod ballot;
 mod entry;
@@ -13,6 +12,6 @@ mod takeover;
 
 pub use answers::{Answer, Tally};
 pub use ballot::{holder_of, next_ballot};
-pub use entry::{Blocks, DependsFrom, Entry, Held, Progress, State, Taken};
+pub use entry::{Entry, Progress, State};
 pub use reports::Reported;
 pub use takeover::Takeover;

@@ -2,13 +2,11 @@
 ghost use Rattle.std.specs.Prelude.{◌≡◌};
 ghost use Rattle.entry.specs.Owners.{proposing, counts_answers, can_settle, has_fast_quorum, has_two_replies, settling, decided, hearing, acknowledging};
 
-use crate::accepts::Accepting;
-use crate::answers::{Answer, Heard, Reply, Vote, settle};
+use crate::answers::{Answer, settle};
 use crate::entry::{Entry, Progress, State};
 use crate::quorum::{fast_quorum, majority};
 use crate::seats::with_seat;
 use block::Value;
-use scan::count;
 
 impl Entry {
     // The owner's own proposal, which it answers itself with a vote.
@@ -16,7 +14,7 @@ impl Entry {
         ensures { result ≡ proposing self seat value dependency }
     {
         let mut next = self.answer(value, dependency, dependency, true);
-        next.tally.answers = with_seat(self.tally.answers, seat, Answer::Vote(dependency));
+        next.tally.answers = with_seat(self.tally.answers, seat, Some(Answer::Vote(dependency)));
         next
     }
 
@@ -31,7 +29,8 @@ impl Entry {
     pub fn can_settle(&self, n: u32) -> bool
         ensures { result ≡ can_settle n self.now }
     {
-        count(&self.tally.answers, &Heard) >= majority(n)
+        let answers = self.tally.answers.iter().filter(|answer| answer.is_some());
+        answers.count() >= majority(n)
     }
 
     // The owner accepts, at ballot 0, the dependency that the answers settle on.
@@ -48,14 +47,24 @@ impl Entry {
     fn has_fast_quorum(&self, n: u32) -> bool
         ensures { result ≡ has_fast_quorum n self.now }
     {
-        count(&self.tally.answers, &Vote) >= fast_quorum(n)
+        let votes = self
+            .tally
+            .answers
+            .iter()
+            .filter(|answer| matches!(**answer, Some(Answer::Vote(_))));
+        votes.count() >= fast_quorum(n)
     }
 
     // Two replies, so that no fast quorum can come any more.
     fn has_two_replies(&self) -> bool
         ensures { result ≡ has_two_replies self.now }
     {
-        count(&self.tally.answers, &Reply) >= 2
+        let replies = self
+            .tally
+            .answers
+            .iter()
+            .filter(|answer| matches!(**answer, Some(Answer::Reply(_))));
+        replies.count() >= 2
     }
 
     // What the answers so far lead to.
@@ -75,14 +84,11 @@ impl Entry {
     pub fn hear_answer(self, n: u32, seat: u32, from: u32, answer: Answer) -> (Entry, Progress)
         ensures { result ≡ hearing n seat self from answer }
     {
-        if !self.counts_answers() || from >= 7 {
+        if !self.counts_answers() || from >= 7 || self.tally.answers[from as usize].is_some() {
             return (self, Progress::Waits);
         }
-        let Answer::Unheard = self.tally.answers[from as usize] else {
-            return (self, Progress::Waits);
-        };
         let mut next = self;
-        next.tally.answers = with_seat(self.tally.answers, from, answer);
+        next.tally.answers = with_seat(self.tally.answers, from, Some(answer));
         next.decide(n, seat)
     }
 
@@ -98,7 +104,8 @@ impl Entry {
         }
         let mut next = self;
         next.tally.accepts = with_seat(self.tally.accepts, from, true);
-        if count(&next.tally.accepts, &Accepting) < majority(n) {
+        let accepts = next.tally.accepts.iter().filter(|accepts| **accepts);
+        if accepts.count() < majority(n) {
             (next, Progress::Waits)
         } else {
             (next.commit(self.value, self.dependency), Progress::Commits)

@@ -1,42 +1,23 @@
 // The reports that a takeover has gathered, and what they let it choose.
-ghost use Rattle.std.specs.Prelude.{◌≡◌, None, slice_index_or};
+ghost use Rattle.std.specs.Prelude.{◌≡◌, ◌<◌, None, slice_index_or, IfSome};
+ghost use Rattle.std.specs.List.{position};
 ghost use Rattle.entry.specs.Reports.{is_reported, is_vote_report, better, best_accepted, votes_for, may_be_committed, first_vote, carried_by, choice};
 
 use crate::quorum::majority;
 use block::{Report, Value};
-use scan::{Test, count, first};
 
 // What one card reported of the entry: nothing, its vote for the proposal, or what it accepted and at which ballot.
-#[derive(Clone, Copy)]
+#[derive(Clone, Copy, PartialEq, Eq, Debug)]
 pub struct Reported {
     pub report: Report,
     pub value: Value,
     pub dependency: u32,
 }
 
-#[derive(Clone, Copy)]
-pub(crate) struct AnyReport;
-
-impl Test<Option<Reported>> for AnyReport {
-    ghost holds = { λ _ r. is_reported r };
-
-    fn passes(&self, reported: &Option<Reported>) -> bool {
-        reported.is_some()
-    }
-}
-
-#[derive(Clone, Copy)]
-struct VoteReport;
-
-impl Test<Option<Reported>> for VoteReport {
-    ghost holds = { λ _ r. is_vote_report r };
-
-    fn passes(&self, reported: &Option<Reported>) -> bool {
-        match *reported {
-            Some(r) => matches!(r.report, Report::Vote),
-            None => false,
-        }
-    }
+fn is_vote(reported: &Option<Reported>) -> bool
+    ensures { result ≡ is_vote_report reported.now }
+{
+    reported.is_some_and(|reported| matches!(reported.report, Report::Vote))
 }
 
 // The accepted report with the higher accept ballot; the one at hand where they are equal, for it is of the lower seat.
@@ -56,13 +37,11 @@ fn higher(best: Option<Reported>, reported: Option<Reported>) -> Option<Reported
 }
 
 fn best_accepted(reports: &[Option<Reported>; 7]) -> Option<Reported>
-    ensures { result ≡ best_accepted None reports.now }
+    ensures { result ≡ best_accepted reports.now }
 {
-    let mut best = None;
-    for reported in reports {
-        best = higher(best, *reported);
-    }
-    best
+    reports
+        .iter()
+        .fold(None, |best, reported| higher(best, *reported))
 }
 
 fn has_reported(reports: &[Option<Reported>; 7], seat: u32) -> bool
@@ -75,7 +54,7 @@ fn has_reported(reports: &[Option<Reported>; 7], seat: u32) -> bool
 fn votes(reports: &[Option<Reported>; 7], owner: u32) -> usize
     ensures { result ≡ votes_for owner reports.now }
 {
-    let reported = count(reports, &VoteReport);
+    let reported = reports.iter().filter(|reported| is_vote(reported)).count();
     if has_reported(reports, owner) {
         reported
     } else {
@@ -90,11 +69,19 @@ fn may_be_committed(reports: &[Option<Reported>; 7], owner: u32, n: u32) -> bool
     votes(reports, owner) >= majority(n)
 }
 
+// The lowest seat that voted.
+fn first_voter(reports: &[Option<Reported>; 7]) -> Option<usize>
+    ensures value { result ≡ position is_vote_report reports.now }
+    ensures bound { IfSome result (λ seat. seat < 7) }
+{
+    reports.iter().position(|reported| is_vote(reported))
+}
+
 // The report of the lowest seat that voted.
 fn first_vote(reports: &[Option<Reported>; 7]) -> Option<Reported>
     ensures { result ≡ first_vote reports.now }
 {
-    match first(reports, 0, &VoteReport) {
+    match first_voter(reports) {
         Some(seat) => reports[seat],
         None => None,
     }
@@ -103,10 +90,7 @@ fn first_vote(reports: &[Option<Reported>; 7]) -> Option<Reported>
 fn carried(reported: Option<Reported>) -> (Value, u32)
     ensures { result ≡ carried_by reported }
 {
-    match reported {
-        Some(r) => (r.value, r.dependency),
-        None => (Value::Noop, 0),
-    }
+    reported.map_or((Value::Noop, 0), |r| (r.value, r.dependency))
 }
 
 // What a takeover may choose: what was accepted at the highest ballot, else what may have been committed on the fast path, else

@@ -2,14 +2,12 @@
 ghost use Rattle.std.specs.Prelude.{◌≡◌};
 ghost use Rattle.entry.specs.Takeovers.{begun, is_live, reporting, acknowledging};
 
-use crate::accepts::Accepting;
 use crate::entry::{Entry, Progress};
 use crate::quorum::majority;
-use crate::reports::{AnyReport, Reported, choose};
+use crate::reports::{Reported, choose};
 use crate::seats::with_seat;
-use scan::count;
 
-#[derive(Clone, Copy)]
+#[derive(Clone, Copy, PartialEq, Eq, Debug)]
 pub struct Takeover {
     pub log: u32,
     pub entry: u32,
@@ -62,7 +60,8 @@ impl Takeover {
         }
         let mut next = self;
         next.reports = with_seat(self.reports, from, Some(reported));
-        if count(&next.reports, &AnyReport) < majority(n) {
+        let reports = next.reports.iter().filter(|reported| reported.is_some());
+        if reports.count() < majority(n) {
             return (next, held, Progress::Waits);
         }
         let (value, dependency) = choose(&next.reports, self.log, n);
@@ -84,7 +83,8 @@ impl Takeover {
         }
         let mut next = self;
         next.accepts = with_seat(self.accepts, from, true);
-        if count(&next.accepts, &Accepting) < majority(n) {
+        let accepts = next.accepts.iter().filter(|accepts| **accepts);
+        if accepts.count() < majority(n) {
             return (next, held, Progress::Waits);
         }
         (

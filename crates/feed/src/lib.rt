@@ -1,14 +1,18 @@
 // Whole blocks from an input that comes in pieces.
 #![tactic(auto)]
 
-ghost use Rattle.std.specs.Prelude.{◌≤◌, IfOk};
+ghost use Rattle.std.specs.Prelude.{◌≤◌, length, IfOk};
 
 use std::io;
 use std::io::Read;
 
-// Reads until `block` is full or the input ends, and answers how many bytes came.
-pub fn next_block<R: Read>(input: &mut R, block: &mut [u8; 512]) -> io::Result<usize>
-    ensures { IfOk result (λ size. size ≤ 512) }
+// Reads until `block` is full or the input ends, and answers the bytes that came. `take` and `read_to_end` would do the same into a
+// `Vec`, but no clause of theirs says that no more than 512 came.
+pub fn next_block<'a, R: Read>(
+    input: &mut R,
+    block: &'a mut [u8; 512],
+) -> io::Result<&'a [u8]>
+    ensures { IfOk result (λ came. length came.now ≤ 512) }
 {
     let mut filled = 0;
     while filled < block.len() {
@@ -18,7 +22,7 @@ pub fn next_block<R: Read>(input: &mut R, block: &mut [u8; 512]) -> io::Result<u
         }
         filled += count;
     }
-    Ok(filled)
+    Ok(&block[..filled])
 }
 
 #[cfg(test)]
@@ -34,12 +38,12 @@ mod tests {
         let more: &[u8] = &[9; 600];
         let mut input = one.chain(more);
         let mut block = [0; 512];
-        assert_eq!(rt; next_block(&mut input, &mut block)?, 512);
+        assert_eq!(rt; next_block(&mut input, &mut block)?.len(), 512);
         assert_eq!(rt; block[0], 7);
         assert_eq!(rt; block[1], 9);
         assert_eq!(rt; block[511], 9);
-        assert_eq!(rt; next_block(&mut input, &mut block)?, 89);
-        assert_eq!(rt; next_block(&mut input, &mut block)?, 0);
+        assert_eq!(rt; next_block(&mut input, &mut block)?.len(), 89);
+        assert_eq!(rt; next_block(&mut input, &mut block)?.len(), 0);
         Ok(())
     }
 }

@@ -5,7 +5,7 @@ ghost use Rattle.inspect.specs.Counts.{counted, counts_text};
 use block::{Fault, Message};
 use std::fmt;
 
-#[derive(Clone, Copy)]
+#[derive(Clone, Copy, Default)]
 pub struct Counts {
     pub blocks: u64,
     pub read: u64,
@@ -13,13 +13,6 @@ pub struct Counts {
 }
 
 impl Counts {
-    // Before the first block.
-    pub const NONE: Counts = Counts {
-        blocks: 0,
-        read: 0,
-        refused: 0,
-    };
-
     // Counts one more block, by what a reader answers of it.
     pub fn note(&mut self, answer: Result<Message, Fault>)
         ensures { self.new ≡ counted self.old answer }

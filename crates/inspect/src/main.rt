@@ -14,13 +14,13 @@ use std::io::BufReader;
 fn inspect(rt: &HostRuntime) -> io::Result<()> {
     let mut input = BufReader::new(rt.alloc(), rt.stdin())?;
     let mut block = [0; 512];
-    let mut counts = Counts::NONE;
+    let mut counts = Counts::default();
     for _ in 0..u64::MAX {
-        let size = next_block(&mut input, &mut block)?;
-        if size == 0 {
+        let bytes = next_block(&mut input, &mut block)?;
+        if bytes.is_empty() {
             break;
         }
-        let line = describe(rt.alloc(), &mut counts, &block[..size])?;
+        let line = describe(rt.alloc(), &mut counts, bytes)?;
         println!(rt; "{line}")?;
     }
     println!(rt; "{counts}")

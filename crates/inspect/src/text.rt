@@ -9,19 +9,21 @@ use std::fmt;
 #[derive(Drop)]
 pub(crate) struct InWords<T>(pub(crate) T);
 
-fn kind_name(kind: Kind) -> &'static str
-    ensures { result.now ≡ kind_name kind }
-{
-    match kind {
-        Kind::FastAccept => "FastAccept",
-        Kind::FastAcceptOk => "FastAcceptOk",
-        Kind::FastAcceptReply => "FastAcceptReply",
-        Kind::Accept => "Accept",
-        Kind::AcceptOk => "AcceptOk",
-        Kind::Commit => "Commit",
-        Kind::Prepare => "Prepare",
-        Kind::PrepareOk => "PrepareOk",
-        Kind::Reject => "Reject",
+impl fmt::Display for InWords<Kind> {
+    ghost output = { λ k. Some (kind_name k.0) };
+
+    fn fmt<W: fmt::Write>(&self, f: &mut fmt::Formatter<W>) -> fmt::Result {
+        f.write_str(match self.0 {
+            Kind::FastAccept => "FastAccept",
+            Kind::FastAcceptOk => "FastAcceptOk",
+            Kind::FastAcceptReply => "FastAcceptReply",
+            Kind::Accept => "Accept",
+            Kind::AcceptOk => "AcceptOk",
+            Kind::Commit => "Commit",
+            Kind::Prepare => "Prepare",
+            Kind::PrepareOk => "PrepareOk",
+            Kind::Reject => "Reject",
+        })
     }
 }
 
@@ -109,7 +111,7 @@ impl fmt::Display for InWords<Message> {
 
     fn fmt<W: fmt::Write>(&self, f: &mut fmt::Formatter<W>) -> fmt::Result {
         let message = self.0;
-        let kind = kind_name(message.kind);
+        let kind = InWords(message.kind);
         let to = InWords(message.to);
         let ballot = Ballot(message.ballot);
         let content = Content(message);

@@ -1,15 +1,10 @@
--- Counting and searching in a list, by a test.
-use Rattle.std.specs.Prelude.{ℕ, ◌+◌, Bool, cond, List, [], ◌∷◌, Some, None, Option, ◌==◌}
+-- Searching in a list, by a test.
+use Rattle.std.specs.Prelude.{◌≡◌, ℕ, ◌+◌, Bool, cond, List, [], ◌∷◌, ◌==◌}
+use Rattle.std.specs.Borrow.{Bor}
 
--- how many items pass
-abbrev pub counted : {X : Type 0} → (X → Bool) → List X → ℕ
-counted p [] = 0
-counted p (x ∷ xs) = cond (p x) 1 0 + counted p xs
-
--- the place of the first item that passes, in a list that begins at place k
-abbrev pub first_at : {X : Type 0} → (X → Bool) → ℕ → List X → Option ℕ
-first_at p k [] = None
-first_at p k (x ∷ xs) = cond (p x) (Some k) (first_at p (k + 1) xs)
+-- what a closure answers of an item is what p says of it
+abbrev pub Decides : {X : Type 0} → (Bor X → Bool → Type 0) → (X → Bool) → Type 0
+Decides {X} answers p = (x : Bor X) (b : Bool) → answers x b → b ≡ p x.now
 
 -- the number of the last item that passes, counted from 1; 0 where none does
 abbrev pub highest_of : {X : Type 0} → (X → Bool) → List X → ℕ

@@ -1,8 +1,37 @@
-// Counting and searching in a list, by a test. Each is proved once, for every type and every test.
+// Searching in a list, by a test. Each search is proved once, for every type and every test.
 #![tactic(auto)]
 
-mod scans;
-mod test;
+ghost use Rattle.std.specs.Prelude.{◌≡◌, ◌<◌, ◌≤◌, Bool, length, drop, IfSome};
+ghost use Rattle.std.specs.List.{position_from};
+ghost use Rattle.scan.specs.Scans.{Decides, highest_of};
 
-pub use scans::{count, first, highest};
-pub use test::Test;
+// The first place, from `start` on, whose item passes.
+pub fn first<T, F: Fn(&T) -> bool>(items: &[T], start: usize, test: F) -> Option<usize>
+    requires { F.IsAlwaysCallable test }
+    ensures value { (p : T → Bool) → Decides (F.post test) p → result ≡ position_from p start (drop start items.now) }
+    ensures bound { IfSome result (λ place. place < length items.now) }
+{
+    let mut found = None;
+    for (place, item) in items.iter().enumerate() {
+        if place >= start && test(item) {
+            found = Some(place);
+            break;
+        }
+    }
+    found
+}
+
+// The number of the last item that passes, counted from 1; 0 where none does.
+pub fn highest<T, F: Fn(&T) -> bool>(items: &[T], test: F) -> usize
+    requires { F.IsAlwaysCallable test }
+    ensures value { (p : T → Bool) → Decides (F.post test) p → result ≡ highest_of p items.now }
+    ensures bound { result ≤ length items.now }
+{
+    let mut number = 0;
+    for (place, item) in items.iter().enumerate() {
+        if test(item) {
+            number = place + 1;
+        }
+    }
+    number
+}

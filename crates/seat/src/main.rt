@@ -14,12 +14,11 @@ fn play(rt: &HostRuntime, mut card: Replica) -> io::Result<()> {
     let mut input = BufReader::new(rt.alloc(), rt.stdin())?;
     let mut output = BufWriter::new(rt.alloc(), rt.stdout())?;
     let mut block = [0; 512];
-    let mut answer = [0; 512];
     for _ in 0..u64::MAX {
-        if next_block(&mut input, &mut block)? < block.len() {
+        if next_block(&mut input, &mut block)?.len() < block.len() {
             break;
         }
-        if reply(&mut card, &block, &mut answer) {
+        if let Some(answer) = reply(&mut card, &block) {
             output.write_all(&answer)?;
         }
     }

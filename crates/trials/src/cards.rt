@@ -51,18 +51,16 @@ pub fn proposals(rt: &HostRuntime, score: &mut Score) -> io::Result<()> {
 // The 512 bytes of a block with six words below 256, and zeros.
 fn block_of(words: [u8; 6]) -> [u8; 512] {
     let mut block = [0; 512];
-    for (i, word) in words.iter().enumerate() {
-        block[4 * i + 3] = *word;
+    for (bytes, word) in block.chunks_exact_mut(4).zip(words) {
+        bytes[3] = word;
     }
     block
 }
 
 fn show(rt: &HostRuntime, what: &str, block: &[u8; 512]) -> io::Result<()> {
     print!(rt; "  {what} words")?;
-    for i in 0..6 {
-        let at = 4 * i;
-        let word = u32::from_be_bytes([block[at], block[at + 1], block[at + 2], block[at + 3]]);
-        print!(rt; " {word}")?;
+    for word in block.as_chunks::<4>().0.iter().take(6) {
+        print!(rt; " {}", u32::from_be_bytes(*word))?;
     }
     println!(rt; "")
 }

@@ -9,7 +9,7 @@ use score::Score;
 use std::io;
 
 fn run(rt: &HostRuntime) -> io::Result<()> {
-    let mut score = Score::NONE;
+    let mut score = Score::default();
     machines::catalogues(rt, &mut score)?;
     machines::pool(rt, &mut score)?;
     machines::once(rt, &mut score)?;

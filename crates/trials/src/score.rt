@@ -4,19 +4,13 @@ ghost use Rattle.trials.specs.Scores.{counted, score_text};
 
 use std::fmt;
 
-#[derive(Clone, Copy)]
+#[derive(Clone, Copy, Default)]
 pub struct Score {
     pub examples: u32,
     pub expected: u32,
 }
 
 impl Score {
-    // Before the first example.
-    pub const NONE: Score = Score {
-        examples: 0,
-        expected: 0,
-    };
-
     // Counts one more example.
     pub fn note(&mut self, as_expected: bool)
         ensures { self.new ≡ counted self.old as_expected }

@@ -9,7 +9,7 @@ pub returns : goal.returns
 returns c =
     let m = c.args.message.now in
     let none : message_fault m 512 ≡ None = search rules in
-    let b : c.put_words.new.buffer ≡ encoded m = search rules in
+    let b : c.copy_from_slice.new.self ≡ encoded m = search rules in
     let w : words_of (encoded m) ≡ message_words m = cc in
     let back = reads_back m w in
     record {

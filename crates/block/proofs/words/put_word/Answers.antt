@@ -8,4 +8,4 @@ returns c =
     let i : ℕ = 4 * c.args.place in
     let k : (4 * c.args.place + 4) - 4 * c.args.place ≡ 4 = omega arith in
     let s : c.copy_from_slice.new.self ≡ word_bytes c.args.word = cc in
-    rw (k, s, drop-drop 4 (4 * c.args.place) c.args.buffer.now)
+    rw (k, s, drop-drop 4 (4 * c.args.place) c.args.block.now)

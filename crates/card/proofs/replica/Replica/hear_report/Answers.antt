@@ -2,9 +2,9 @@ use Rattle.std.proofs.Common.{rules}
 use Rattle.card.specs.Delivering.{reports}
 use Rattle.card.proofs.replica.Replica.hear_report.Goals as goal
 
-pub returns-in_default : goal.returns-in_default
+pub returns-in_err-takeover : goal.returns-in_err-takeover
 unfolding reports
-returns-in_default c = search rules
+returns-in_err-takeover c = search rules
 
 pub returns-then-not-is_live : goal.returns-then-not-is_live
 unfolding reports

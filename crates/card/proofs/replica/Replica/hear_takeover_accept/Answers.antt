@@ -2,9 +2,9 @@ use Rattle.std.proofs.Common.{rules}
 use Rattle.card.specs.Delivering.{acknowledges_takeover}
 use Rattle.card.proofs.replica.Replica.hear_takeover_accept.Goals as goal
 
-pub returns-in_default : goal.returns-in_default
+pub returns-in_err-takeover : goal.returns-in_err-takeover
 unfolding acknowledges_takeover
-returns-in_default c = search rules
+returns-in_err-takeover c = search rules
 
 pub returns-then-not-is_live : goal.returns-then-not-is_live
 unfolding acknowledges_takeover

@@ -1,18 +1,15 @@
-use Rattle.std.proofs.Common.{◌≡◌, replicate, ap, ◌∙◌, arith}
+use Rattle.std.proofs.Common.{◌≡◌, ap, ◌∙◌, arith}
 use Rattle.std.proofs.lemmas.List.{take_all}
 use Rattle.block.specs.Words.{block_of, words_of}
 use Rattle.block.proofs.Bytes.{put_more}
 use Rattle.block.proofs.Blocks.{words_of_block}
-use Rattle.block.proofs.words.put_words.Goals as goal
-
-pub loop-place-init : goal.loop-place-init
-loop-place-init c = c.fill.ensures.after (λ y h. h) ∙ ap (λ n. replicate n 0) c.requires
+use Rattle.block.proofs.words.block_of.Goals as goal
 
 pub loop-place-preserved : goal.loop-place-preserved
 loop-place-preserved c =
-    c.put_word.ensures ∙ put_more c.args.words.now c.loop-place.buffer c.loop-place.place (omega arith) (omega arith) c.loop-place.invariant
+    c.put_word.ensures ∙ put_more c.args.words.now c.loop-place.block c.loop-place.place (omega arith) (omega arith) c.loop-place.invariant
 
-written : (c : goal.After-loop-place) → c.loop-place.buffer ≡ block_of c.args.words.now
+written : (c : goal.After-loop-place) → c.loop-place.block ≡ block_of c.args.words.now
 unfolding block_of
 written c =
     let e : c.loop-place.place ≡ 15 = omega arith in
@@ -21,6 +18,6 @@ written c =
 pub returns : goal.returns
 returns c =
     record {
-      after = written c;
+      value = written c;
       reads_back = ap words_of (written c) ∙ words_of_block c.args.words.now c.told-words c.fits-words;
     }
