@@ -72,7 +72,6 @@ module _ (R : Rule) (n : ℕ) (starts : List R.State) (G₀ : Group R) (new : Ne
             let w = new.cards seat s.0 s.1 in
             (w.0, nth_map replica_of G₀.cards seat (new_meaning R n seat w.0 s.0) w.1);
         sent = new.sent;
-        proposed = new.proposed;
       }
     where
       start : (seat : ℕ) → seat < n → (x : R.State) × (slice_get starts seat ≡ Some x)

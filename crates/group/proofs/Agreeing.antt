@@ -20,7 +20,8 @@ use Rattle.card.specs.Making.{new_replica}
 use Rattle.group.specs.declared.calls.Call.{Call}
 use Rattle.group.specs.Groups.{Group, after, New}
 use Rattle.group.specs.Agreements.{Holds, Agree, GroupsAgree, Orders}
-use Rattle.group.specs.Standing.{Standing}
+use Rattle.group.specs.Scans.{Shaped}
+use Rattle.group.specs.Standing.{Valued}
 use Rattle.group.specs.Views.{number_of, log_named, cell_of, cell_on, stage_of, content_of, noted}
 use Rattle.group.proofs.Beginning.{cards_begin, empty_new}
 use Rattle.group.proofs.Grouping.{view, takeover_on, Sound, at_inside}
@@ -81,6 +82,7 @@ module _ (n f : ℕ) (is : n ≡ 2 * f + 1) (fails : 0 < f) (few : n ≤ 7) (G :
               size = refl;
               place = refl;
               seated = record { size = is; some_fail = fails; few = few; seat = l; stands = (cards_begin n s w.0).stands };
+              valued = (cards_begin n s w.0).valued;
             };
       }
 
@@ -102,12 +104,12 @@ held_valued n f G sound s log i v d l low w z =
     let inside = at_inside G.cards s w.card w.seated in
     let c = sound.cards s (omega (arith, sound.count_is)) in
     let same : c.card ≡ w.card = let a = c.here in let b = w.seated in grind arith in
-    let stands : Standing w.card.n w.card.seat w.card = subst (λ r. Standing r.n r.seat r) same c.seated.stands in
+    let shape : Shaped w.card = subst Shaped same c.seated.stands.shape in
     elim (cases_Bool (leb i 128)) [
-      | inl h ↦ let e = (stands.entries log (i - 1) l (grind (arith, nat_tests))).valued (w.value_is ∙ z) in let q = w.committed in grind arith
+      | inl h ↦ let e = (subst Valued same c.valued).entries log (i - 1) l (grind (arith, nat_tests)) (w.value_is ∙ z) in let q = w.committed in grind arith
       | inr h ↦
           let long : 128 ≤ i - 1 = grind (arith, nat_tests) in
-          let e = get_or_past (log_of w.card log) (i - 1) absent (omega (arith, stands.shape log l)) in
+          let e = get_or_past (log_of w.card log) (i - 1) absent (omega (arith, shape log l)) in
           let q = w.committed in grind arith
     ]
 

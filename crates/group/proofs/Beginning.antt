@@ -30,7 +30,6 @@ empty_stands n =
       untallied = λ e c. none_past Unheard 7 c;
       bare = λ e. refl;
       votes = λ c d o e. absurd (grind arith);
-      valued = λ e. refl;
     }
 
 -- an entry of a new log, or what stands past its end
@@ -74,6 +73,10 @@ cards_begin n seat ok =
         shape = λ log l. ap length (both_empty log l) ∙ length-replicate 128 empty;
         entries = λ log k l h. rw (both_empty log l, get_or-replicate 128 k empty absent h) (empty_stands n);
         takeover = tt;
+      };
+      valued = record {
+        entries = λ log k l h. rw (both_empty log l, get_or-replicate 128 k empty absent h) (λ e. refl);
+        reports = λ t q. absurd (grind arith);
         stored = λ t q. absurd (grind arith);
       };
     }

@@ -34,9 +34,9 @@ use Rattle.group.specs.Groups.{Group, seat_of, carried, delivered, stepped, call
 use Rattle.group.specs.Turns.{SeatedCard}
 use Rattle.group.specs.Views.{number_of, log_named, noted, body_of}
 use Rattle.group.proofs.Called.{deliveries_turn, proposals, settlings, takeovers}
-use Rattle.group.proofs.Keeping.{After, Kept, delivery_keeps, proposing_keeps, settling_keeps, takeover_keeps}
+use Rattle.group.proofs.Keeping.{Whole, After, Kept, delivery_keeps, proposing_keeps, settling_keeps, takeover_keeps}
 use Rattle.group.proofs.Saying.{Told, settle_said, takeover_said, delivery_said}
-use Rattle.group.proofs.Grouping.{Sound, GoesOn, stays_put, advance, quietly, in_first, at_in, seated}
+use Rattle.group.proofs.Grouping.{Sound, GoesOn, stays_put, advance, quietly, in_first, at_in, seated, whole}
 
 some_is : {X : Type 0} {x y : X} → ◌≡◌ {A = Option X} (Some x) (Some y) → x ≡ y
 some_is e = grind arith
@@ -67,6 +67,9 @@ module _ (n f : ℕ) (fails : 0 < f) (few : n ≤ 7) (G : Group) (s : Sound n f 
     abbrev place_of : SeatedCard f r
     place_of = seated n f fails few G s seat r here
 
+    abbrev whole_of : Whole r.n r.seat r
+    whole_of = whole n f fails few G s seat r here
+
     settle_goes : (log i : ℕ) → Goes (Settle seat log i) (settle r log i)
     settle_goes log i = by (settle r log i) refl
       where
@@ -74,7 +77,7 @@ module _ (n f : ℕ) (fails : 0 < f) (few : n ≤ 7) (G : Group) (s : Sound n f 
         by (Err refused) q = stays_put n f fails few G s
         by (Ok x) q =
             quietly n f fails few G s seat r here x (log_named log) log i refl (settlings f r place_of S log i x q)
-            (subst (After r place_of.few place_of.seat place_of.stands) q (settling_keeps r place_of.few place_of.seat place_of.stands log i))
+            (subst (After r place_of.few place_of.seat whole_of) q (settling_keeps r place_of.few place_of.seat whole_of log i))
             (subst (Told r log i) q (settle_said r log i))
 
     takeover_goes : (log i : ℕ) → Goes (Takeover seat log i) (takeover r log i)
@@ -84,7 +87,7 @@ module _ (n f : ℕ) (fails : 0 < f) (few : n ≤ 7) (G : Group) (s : Sound n f 
         by (Err refused) q = stays_put n f fails few G s
         by (Ok x) q =
             quietly n f fails few G s seat r here x (log_named log) log i refl (takeovers f r place_of S log i x q)
-            (subst (After r place_of.few place_of.seat place_of.stands) q (takeover_keeps r place_of.few place_of.seat place_of.stands log i))
+            (subst (After r place_of.few place_of.seat whole_of) q (takeover_keeps r place_of.few place_of.seat whole_of log i))
             (subst (Told r log i) q (takeover_said r log i))
 
     abbrev offered : Command → Replica × Option Message
@@ -111,7 +114,7 @@ module _ (n f : ℕ) (fails : 0 < f) (few : n ≤ 7) (G : Group) (s : Sound n f 
         by (Ok x) q =
             let z = is_offered c x q in
             advance n f fails few G s seat r here x (G.proposed ++ (c ∷ [])) (log_named r.seat) r.seat (next_entry r) refl (proposals f r place_of S c x q)
-            (subst (After r place_of.few place_of.seat place_of.stands) q (proposing_keeps r place_of.few place_of.seat place_of.stands c))
+            (subst (After r place_of.few place_of.seat whole_of) q (proposing_keeps r place_of.few place_of.seat whole_of c))
             (subst (λ y. (m : Message) → y.1 ≡ Some m → (m.from ≡ r.seat) × (m.log ≡ r.seat) × (m.entry ≡ next_entry r)) z
             (λ m w. subst (λ k. (k.from ≡ r.seat) × (k.log ≡ r.seat) × (k.entry ≡ next_entry r)) (some_is w) (refl, refl, refl)))
             (subst (λ y. (b : Command) (d : ℕ) → body_of y.1 ≡ some (fast_accept b d) → In b (G.proposed ++ (c ∷ []))) z (offers c))
@@ -144,8 +147,8 @@ module _ (n f : ℕ) (fails : 0 < f) (few : n ≤ 7) (G : Group) (s : Sound n f 
           by (Ok x) q =
               quietly n f fails few G s seat r here x (log_named m.log) m.log m.entry refl
               (deliveries_turn f r place_of S m sound_message (at_in noted G.sent k m sent) mine peer x q)
-              (subst (Kept r place_of.few some_fail place_of.seat place_of.stands m sound_message from_seat) q
-              (delivery_keeps r place_of.few some_fail place_of.seat place_of.stands m sound_message from_seat))
+              (subst (Kept r place_of.few some_fail place_of.seat whole_of m sound_message from_seat) q
+              (delivery_keeps r place_of.few some_fail place_of.seat whole_of m sound_message from_seat))
               (subst (Told r m.log m.entry) q (delivery_said r m))
 
       received_goes : Goes (Deliver seat k) (received r (Ok m))

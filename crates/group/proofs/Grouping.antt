@@ -20,8 +20,9 @@ use Rattle.group.specs.Views.{number_of, log_named, cell_on, cell_at, takeover_i
 use Rattle.block.specs.declared.message.Kind.{Kind}
 use Rattle.block.specs.declared.message.Kind.TheVariants.{FastAccept, FastAcceptOk, FastAcceptReply, Accept, AcceptOk, Commit, Prepare, PrepareOk, Reject}
 use Rattle.column.specs.Cells.{Body.fast_accept}
-use Rattle.group.specs.Standing.{Standing}
+use Rattle.group.specs.Standing.{Standing, Valued}
 use Rattle.group.specs.Turns.{SeatedCard, TakesTurn}
+use Rattle.group.proofs.Keeping.{Whole}
 use Rattle.group.proofs.Proposed.{turn_proposes}
 use Rattle.group.proofs.Saying.{Says, Said}
 
@@ -80,6 +81,7 @@ pub record PlacedCard (n f : ℕ) (cards : List Replica) (seat : ℕ) : Type 0 w
   pub size : card.n ≡ n
   pub place : card.seat ≡ seat
   pub seated : SeatedCard f card
+  pub valued : Valued card
 
 module _ (n f : ℕ) where
   pub record Sound (G : Group) : Type 0 where
@@ -91,7 +93,7 @@ module _ (n f : ℕ) where
   -- one card has taken a turn, and perhaps sent a message
   module _ (G : Group) (sound : Sound G) (seat : ℕ) (r : Replica) (here : slice_get G.cards seat ≡ Some r) (x : Replica × Option Message)
       (more : List Command) (g : Log) (i : ℕ) (turn : TakesTurn f (map noted G.sent) r g i x) (inside : seat < n) (size : r.n ≡ n)
-      (place : r.seat ≡ seat) (seated : SeatedCard f x.0) (size' : x.0.n ≡ n) (place' : x.0.seat ≡ seat)
+      (place : r.seat ≡ seat) (seated : SeatedCard f x.0) (valued : Valued x.0) (size' : x.0.n ≡ n) (place' : x.0.seat ≡ seat)
       (said : (m : Message) → x.1 ≡ Some m → noted m ≡ message seat g i (body_by m.kind m))
       (asks : (c : Command) (d : ℕ) → In (propose (content (command c) d)) turn.0.0 → In c more)
       (keeps : (c : Command) → In c G.proposed → In c more) where
@@ -159,10 +161,10 @@ module _ (n f : ℕ) where
           reached = record { from = sound.reached.from; fresh = sound.reached.fresh; moves = then sound.reached.moves moves_on };
           count_is = length-set G.cards seat x.0 ∙ sound.count_is;
           cards = λ k l. elim (cases_eq k seat) [
-            | inl same ↦ record { card = x.0; here = ap (slice_get H.cards) same ∙ there; size = size'; place = place' ∙ sym same; seated = seated }
+            | inl same ↦ record { card = x.0; here = ap (slice_get H.cards) same ∙ there; size = size'; place = place' ∙ sym same; seated = seated; valued = valued }
             | inr ne ↦
                 let c = sound.cards k l in
-                record { card = c.card; here = at_other G.cards seat k x.0 ne ∙ c.here; size = c.size; place = c.place; seated = c.seated }
+                record { card = c.card; here = at_other G.cards seat k x.0 ne ∙ c.here; size = c.size; place = c.place; seated = c.seated; valued = c.valued }
           ];
         }
 
@@ -220,31 +222,34 @@ module _ (n f : ℕ) (fails : 0 < f) (few : n ≤ 7) where
     pub seated : SeatedCard f r
     seated = subst (SeatedCard f) same_card mine.seated
 
+    pub whole : Whole r.n r.seat r
+    whole = record { stands = seated.stands; valued = subst Valued same_card mine.valued }
+
     abbrev S : List column.Message
     S = map noted G.sent
 
     -- the call came to x by a turn at entry g.i
     pub advance : (x : Replica × Option Message) (more : List Command) (g : Log) (log i : ℕ) → log_named log ≡ g → TakesTurn f S r g i x
-        → Standing r.n r.seat x.0
+        → Whole r.n r.seat x.0
         → ((m : Message) → x.1 ≡ Some m → (m.from ≡ r.seat) × (m.log ≡ log) × (m.entry ≡ i))
         → ((c : Command) (d : ℕ) → body_of x.1 ≡ some (fast_accept c d) → In c more)
         → ((c : Command) → In c G.proposed → In c more)
         → GoesOn G (record { cards = set G.cards seat x.0; sent = G.sent ++ one_of x.1; proposed = more }) s
     unfolding sound_after
     advance x more g log i named turn st said asks keeps =
-        let c = seats_card r x.0 seated st in
+        let c = seats_card r x.0 seated st.stands in
         let told : (m : Message) → x.1 ≡ Some m → noted m ≡ message seat g i (body_by m.kind m) =
         λ m e. let w = said m e in
         let a : m.from ≡ seat = w.0 ∙ place in let b : log_named m.log ≡ g = ap log_named w.1 ∙ named in let d : m.entry ≡ i = w.2 in rw (a, b, d) in
         let handed : (c : Command) (d : ℕ) → In (propose (content (command c) d)) turn.0.0 → In c more =
         λ c d j. asks c d (turn_proposes r.n f number_of holder_of g i r.seat S (cell_at r (other g)) c d turn.0.1 j) in
         record {
-          sound = sound_after n f G s seat r here x more g i turn inside size place c (st.size ∙ size) (st.place ∙ place) told handed keeps;
-          later = then now (moves_on n f G s seat r here x more g i turn inside size place c (st.size ∙ size) (st.place ∙ place) told handed keeps);
+          sound = sound_after n f G s seat r here x more g i turn inside size place c st.valued (st.stands.size ∙ size) (st.stands.place ∙ place) told handed keeps;
+          later = then now (moves_on n f G s seat r here x more g i turn inside size place c st.valued (st.stands.size ∙ size) (st.stands.place ∙ place) told handed keeps);
         }
 
     -- by what the call said, where it proposed nothing
-    pub quietly : (x : Replica × Option Message) (g : Log) (log i : ℕ) → log_named log ≡ g → TakesTurn f S r g i x → Standing r.n r.seat x.0
+    pub quietly : (x : Replica × Option Message) (g : Log) (log i : ℕ) → log_named log ≡ g → TakesTurn f S r g i x → Whole r.n r.seat x.0
         → Said r log i x.1
         → GoesOn G (record { cards = set G.cards seat x.0; sent = G.sent ++ one_of x.1; proposed = G.proposed ++ [] }) s
     quietly x g log i named turn st said =

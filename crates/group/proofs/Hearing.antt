@@ -80,7 +80,6 @@ noted_stands_at n few e from a seat stands_e st fits own =
         | inl same ↦ own d (sym (ap (λ k. get_or (set xs from a) k Unheard) same ∙ get_or-set_same xs from a Unheard inside) ∙ q)
         | inr ne ↦ stands_e.votes c d o (sym (get_or-set_other xs from c a Unheard ne) ∙ q)
       ];
-      valued = stands_e.valued;
     }
 
 module _ (n f s : ℕ) (size : n ≡ 2 * f + 1) (few : n ≤ 7) (r : Replica) (stands : Standing n s r) (S : List column.Message) (g : Log) (log i : ℕ)

@@ -79,10 +79,9 @@ abbrev pub after : Group → List Call → Group
 after G [] = G
 after G (c ∷ cs) = after (called G c) cs
 
--- a new group: each of its n seats has a card as make gives it, and nothing was sent
+-- a new group: each of its n seats has a card as make gives it, and nothing was sent, whatever is noted as proposed
 pub record New (n : ℕ) (G : Group) : Type 0 where
   pub sized : is_group n 0 ≡ true
   pub size : length G.cards ≡ n
   pub cards : (seat : ℕ) → seat < n → (ok : is_group n seat ≡ true) × (slice_get G.cards seat ≡ Some (new_replica n seat ok))
   pub sent : G.sent ≡ []
-  pub proposed : G.proposed ≡ []

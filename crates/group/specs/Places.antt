@@ -11,14 +11,15 @@ use Rattle.card.specs.Groups.{is_group}
 use Rattle.card.specs.Making.{new_replica}
 use Rattle.card.specs.Tables.{with_entry}
 use Rattle.group.specs.Scans.{Shaped}
-use Rattle.group.specs.Standing.{Seated, Standing}
+use Rattle.group.specs.Standing.{Seated, Standing, Valued}
 use Rattle.group.specs.Views.{number_of, cell_of, cell_at, takeover_in}
 
--- a new card: nothing has happened to any entry, there is no takeover, and it stands in its seat
+-- a new card: nothing has happened to any entry, there is no takeover, it stands in its seat, and nothing in it wants a value
 pub record Begins (n seat : ℕ) (r : Replica) : Type 0 where
   pub entries : (g : Log) (i : ℕ) → New (cell_at r g i)
   pub takeover : takeover_in r.takeover ≡ none
   pub stands : Standing n seat r
+  pub valued : Valued r
 
 abbrev pub CardsBegin : Type 0
 CardsBegin = (n seat : ℕ) (ok : is_group n seat ≡ true) → Begins n seat (new_replica n seat ok)

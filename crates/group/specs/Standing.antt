@@ -29,15 +29,11 @@ pub record StandingEntry (n : ℕ) (e : Entry) : Type 0 where
   pub bare : e.state ≡ Empty → has_answered e ≡ false
   -- while answers count, a vote has the proposed dependency
   pub votes : (c d : ℕ) → is_open e.state ≡ true → slice_index_or e.tally.answers c Unheard ≡ Vote d → d ≡ e.dependency
-  -- an entry without a value is an empty one: what is held is a command or a no-op
-  pub valued : e.value ≡ value.Nothing → e.state ≡ Empty
 
 pub record StandingTakeover (n : ℕ) (t : Takeover) : Type 0 where
   pub dependencies : (c : ℕ) (x : Reported) → slice_index_or t.reports c None ≡ Some x → x.dependency ≤ 128
   pub reports : Seated n None t.reports
   pub accepts : Seated n false t.accepts
-  -- a report without a value is an empty one: what was voted for or accepted is a command or a no-op
-  pub valued : (c : ℕ) (x : Reported) → slice_index_or t.reports c None ≡ Some x → x.value ≡ value.Nothing → x.report ≡ report.Empty
 
 abbrev pub StandingMaybe : ℕ → Option Takeover → Type 0
 StandingMaybe n None = Unit {0}
@@ -51,5 +47,18 @@ pub record Standing (n seat : ℕ) (r : Replica) : Type 0 where
   pub shape : Shaped r
   pub entries : (log k : ℕ) → log ≤ 1 → k < 128 → StandingEntry n (slice_index_or (log_of r log) k absent)
   pub takeover : StandingMaybe n r.takeover
+
+-- an entry without a value is an empty one: what is held is a command or a no-op
+abbrev pub ValuedEntry : Entry → Type 0
+ValuedEntry e = e.value ≡ value.Nothing → e.state ≡ Empty
+
+-- a report without a value is an empty one: what was voted for or accepted is a command or a no-op
+abbrev pub ValuedReport : Reported → Type 0
+ValuedReport x = x.value ≡ value.Nothing → x.report ≡ report.Empty
+
+-- what such a card holds, has heard reported or has chosen has a value; no turn of a card asks for this
+pub record Valued (r : Replica) : Type 0 where
+  pub entries : (log k : ℕ) → log ≤ 1 → k < 128 → ValuedEntry (slice_index_or (log_of r log) k absent)
+  pub reports : (t : Takeover) → r.takeover ≡ Some t → (c : ℕ) (x : Reported) → slice_index_or t.reports c None ≡ Some x → ValuedReport x
   -- a takeover that has chosen has stored its choice: its entry has a value
   pub stored : (t : Takeover) → r.takeover ≡ Some t → t.chosen ≡ true → (entry_at r t.log t.entry).value ≢ value.Nothing

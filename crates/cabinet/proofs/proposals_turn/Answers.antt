@@ -1,5 +1,0 @@
-use Rattle.cabinet.proofs.Called.{proposals}
-use Rattle.cabinet.proofs.proposals_turn.Goals as goal
-
-pub returns : goal.returns
-returns c = λ f r s S c x q. proposals f r s S c x q

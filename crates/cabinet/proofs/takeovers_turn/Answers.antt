@@ -1,5 +1,0 @@
-use Rattle.cabinet.proofs.Called.{takeovers}
-use Rattle.cabinet.proofs.takeovers_turn.Goals as goal
-
-pub returns : goal.returns
-returns c = λ f r s S log i x q. takeovers f r s S log i x q
