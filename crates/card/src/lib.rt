@@ -3,8 +3,6 @@
 
 mod checks;
 mod deliver;
-mod examples;
-mod fitted;
 mod make;
 mod messages;
 mod propose;
@@ -14,7 +12,5 @@ mod settle;
 mod table;
 mod takeover;
 
-pub use examples::examples_hold;
-pub use fitted::Card;
 pub use refusal::Refusal;
 pub use replica::Replica;
