@@ -9,4 +9,3 @@ pub mod Settling
 pub mod Taking
 pub mod Checks
 pub mod Delivering
-pub mod Examples

@@ -4,8 +4,6 @@
 mod checks;
 mod deliver;
 mod delivered;
-mod examples;
-mod fitted;
 mod make;
 mod messages;
 mod place;
@@ -16,7 +14,5 @@ mod settle;
 mod table;
 mod takeover;
 
-pub use examples::examples_hold;
-pub use fitted::Card;
 pub use refusal::Refusal;
 pub use replica::Replica;

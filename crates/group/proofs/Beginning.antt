@@ -3,7 +3,6 @@ use Rattle.std.proofs.Common.{◌≡◌, ℕ, zero, suc, ◌≤◌, false, ◌�
 use lib.ListN.{length-replicate, get_or-replicate}
 use Rattle.agreement.specs.Logs.{Log, Log.pilot, Log.copilot}
 use Rattle.column.specs.Cells.{New}
-use Rattle.entry.specs.declared.answers.Answer.TheVariants.{Unheard}
 use Rattle.entry.specs.declared.entry.Entry.{Entry}
 use Rattle.entry.specs.Entries.{empty}
 use Rattle.card.specs.Making.{new_replica, empty_logs}
@@ -23,11 +22,11 @@ seated n x = record { seven = refl; group = λ c h. none_past x 7 c }
 empty_stands : (n : ℕ) → StandingEntry n empty
 empty_stands n =
     record {
-      answers = seated n Unheard;
+      answers = seated n None;
       accepts = seated n false;
-      low = λ d g. absurd (let e = none_past Unheard 7 g.0 in grind arith);
+      low = λ d g. absurd (let e = none_past None 7 g.0 in grind arith);
       dependency = omega arith;
-      untallied = λ e c. none_past Unheard 7 c;
+      untallied = λ e c. none_past None 7 c;
       bare = λ e. refl;
       votes = λ c d o e. absurd (grind arith);
     }
@@ -44,7 +43,7 @@ empty_new =
       bare = refl;
       unpromised = refl;
       unvoted = refl;
-      unanswered = λ c. ap answer_of (none_past Unheard 7 c);
+      unanswered = λ c. ap answer_of (none_past None 7 c);
       unaccepted = λ c. none_past false 7 c;
     }
 

@@ -8,7 +8,7 @@ use Rattle.block.specs.declared.message.Message.{Message}
 use Rattle.column.specs.Cells.{Body.fast_accept, Body.prepare, Puts, Report.unheard, report_of_cell}
 use Rattle.column.specs.Cells as column
 use Rattle.column.specs.Moves.{Act.proposes, Act.takes_over, Act.rests, Turn.once}
-use Rattle.entry.specs.declared.answers.Answer.TheVariants.{Unheard, Vote}
+use Rattle.entry.specs.declared.answers.Answer.TheVariants.{Vote}
 use Rattle.entry.specs.declared.entry.Entry.{Entry}
 use Rattle.entry.specs.declared.entry.Progress.TheVariants.{Accepts}
 use Rattle.entry.specs.declared.entry.State.{State}
@@ -82,9 +82,9 @@ module _ (f : ℕ) (r : Replica) (s : SeatedCard f r) (S : List column.Message) 
       writes r.n f r.seat r s.stands S (log_named r.seat) r.seat i (number_named r.seat low) (omega arith) (omega arith)
       (proposal_of r c) (Some (fast_accept_message r.seat r.seat i (proposal_of r c))) (some (fast_accept c d)) refl (
         _,
-        once (proposes c d (answers_of (set e.tally.answers r.seat (Vote d))) (sym (number_named r.seat low)) (ap stage_of bare.0) bare.1
+        once (proposes c d (answers_of (set e.tally.answers r.seat (Some (Vote d)))) (sym (number_named r.seat low)) (ap stage_of bare.0) bare.1
             (far_highest r.n f r.seat r s.stands S (log_named r.seat) r.seat i (number_named r.seat low) (omega arith) (omega arith))
-            (puts_one answer_of Unheard (Vote d) e.tally.answers r.seat (omega (arith, stands_e.answers.seven)))),
+            (puts_one answer_of None (Some (Vote d)) e.tally.answers r.seat (omega (arith, stands_e.answers.seven)))),
       )
 
   -- what an answer `Ok` says

@@ -6,10 +6,10 @@ use Rattle.block.specs.declared.message.Report.{Report}
 use Rattle.block.specs.declared.message.Report.TheVariants.{Empty, Vote, Accepted}
 use Rattle.block.specs.declared.message.Value.TheVariants.{Noop}
 use Rattle.block.specs.Messages.{accept_of}
-use Rattle.scan.specs.Scans.{counted, first_at}
+use Rattle.std.specs.List.{count_by, fold, position_from}
 use Rattle.entry.specs.declared.reports.Reported.{Reported}
 use Rattle.entry.specs.Quorums.{majority_of}
-use Rattle.entry.specs.Reports.{is_reported, is_vote_report, over, better_by, best_accepted, votes_for, may_be_committed, report_at, first_vote, carried_by, choice}
+use Rattle.entry.specs.Reports.{is_reported, is_vote_report, over, better_by, better, best_accepted, votes_for, may_be_committed, report_at, first_vote, carried_by, choice}
 use Rattle.group.specs.Choices.{Reports, Accepts, NoneAccepted, Chosen, Chosen.as_accepted, Chosen.as_voted, Chosen.as_noop, ReportsChoose}
 use Rattle.group.proofs.Scanning.{first_passes, some_found}
 
@@ -78,9 +78,9 @@ takes_place best y b rs (Some r) a low i =
       start = λ x e. let l = low x e in omega arith;
     }
 
-module _ (y : Reported) (rs : List (Option Reported)) (rest : (best : Option Reported) → AtHand best → Outcome best rs (best_accepted best rs)) where
+module _ (y : Reported) (rs : List (Option Reported)) (rest : (best : Option Reported) → AtHand best → Outcome best rs (fold better best rs)) where
   accepted_more : (best : Option Reported) (b : ℕ) → y.report ≡ Accepted b → AtHand best
-      → Outcome best (Some y ∷ rs) (best_accepted (over best y b) rs)
+      → Outcome best (Some y ∷ rs) (fold better (over best y b) rs)
   accepted_more None b e s = takes_place None y b rs _ e (λ z q. absurd (grind arith)) (rest (Some y) (rw e))
   accepted_more (Some z) b e s =
       elim (cases_Bool (leb b (accept_of z.report))) [
@@ -89,12 +89,12 @@ module _ (y : Reported) (rs : List (Option Reported)) (rest : (best : Option Rep
       ]
 
   one_more : (best : Option Reported) (p : Report) → y.report ≡ p → AtHand best
-      → Outcome best (Some y ∷ rs) (best_accepted (better_by p best y) rs)
+      → Outcome best (Some y ∷ rs) (fold better (better_by p best y) rs)
   one_more best Empty e s = same_on best (Some y) rs _ (λ b z q a. absurd (grind arith)) (rest best s)
   one_more best Vote e s = same_on best (Some y) rs _ (λ b z q a. absurd (grind arith)) (rest best s)
   one_more best (Accepted b) e s = accepted_more best b e s
 
-best_outcome : (best : Option Reported) (rs : List (Option Reported)) → AtHand best → Outcome best rs (best_accepted best rs)
+best_outcome : (best : Option Reported) (rs : List (Option Reported)) → AtHand best → Outcome best rs (fold better best rs)
 best_outcome None [] s = record { start = refl; silent = λ k b x e. grind arith }
 best_outcome (Some r) [] s = record { accepted = s; from = inl refl; highest = λ k b x e. absurd (grind arith); start = λ x e. grind arith }
 best_outcome best (None ∷ rs) s = same_on best None rs _ (λ b y e a. absurd (grind arith)) (best_outcome best rs s)
@@ -114,10 +114,10 @@ module _ (n owner : ℕ) (reports : List (Option Reported)) (some : 2 ≤ majori
   voted : NoneAccepted reports → may_be_committed n owner reports ≡ true → Chosen reports n owner (carried_by (first_vote reports))
   voted silent t =
       let enough : majority_of n ≤ votes_for owner reports = grind (arith, nat_tests) in
-      let one : 0 < counted is_vote_report reports = grind (arith, nat_tests) in
-      found (first_at is_vote_report 0 reports) refl (some_found is_vote_report None reports 0 one) enough
+      let one : 0 < count_by is_vote_report reports = grind (arith, nat_tests) in
+      found (position_from is_vote_report 0 reports) refl (some_found is_vote_report None reports 0 one) enough
     where
-      found : (o : Option ℕ) → first_at is_vote_report 0 reports ≡ o → is_some (first_at is_vote_report 0 reports) ≡ true
+      found : (o : Option ℕ) → position_from is_vote_report 0 reports ≡ o → is_some (position_from is_vote_report 0 reports) ≡ true
           → majority_of n ≤ votes_for owner reports
           → Chosen reports n owner (carried_by (report_at reports o))
       found None e s enough = absurd (grind arith)
@@ -142,4 +142,4 @@ module _ (n owner : ℕ) (reports : List (Option Reported)) (some : 2 ≤ majori
 
 pub reports_choose : ReportsChoose
 unfolding choice
-reports_choose n owner reports some = chosen n owner reports some (best_accepted None reports) (best_outcome None reports tt)
+reports_choose n owner reports some = chosen n owner reports some (best_accepted reports) (best_outcome None reports tt)

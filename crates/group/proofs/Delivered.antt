@@ -18,7 +18,7 @@ use Rattle.block.specs.Messages.{value_number}
 use Rattle.block.specs.Valid.{Valid}
 use Rattle.column.specs.Cells.{Message.message}
 use Rattle.column.specs.Cells as column
-use Rattle.scan.specs.Scans.{first_at}
+use Rattle.std.specs.List.{position_from}
 use Rattle.entry.specs.declared.entry.Entry.{Entry}
 use Rattle.entry.specs.declared.entry.State.{State}
 use Rattle.entry.specs.declared.entry.State.TheVariants.{Empty, Answered, Accepted, Committed}
@@ -31,7 +31,7 @@ use Rattle.block.specs.Fits.{ballot_fits}
 use Rattle.column.specs.Cells.{Body, Body.fast_accept, Body.fast_ok, Body.fast_reply, Body.accept_at, Body.accept_ok, Body.committed_as, Body.prepare, Body.prepare_ok, Body.reject}
 use Rattle.column.specs.Moves.{Act, Act.counts_vote, Act.counts_reply}
 use Rattle.entry.specs.declared.answers.Answer.{Answer}
-use Rattle.entry.specs.declared.answers.Answer.TheVariants.{Unheard, Vote, Reply}
+use Rattle.entry.specs.declared.answers.Answer.TheVariants.{Vote, Reply}
 use Rattle.entry.specs.declared.takeover.Takeover.{Takeover}
 use Rattle.entry.specs.Ballots.{holder_in}
 use Rattle.entry.specs.Takeovers.{is_live}
@@ -57,9 +57,9 @@ held_state Committed ne = refl
 
 -- what blocks is held, so that a reply has a dependency
 blocked_held : (n s : ℕ) (r : Replica) → Standing n s r → (log i d : ℕ) → log ≤ 1 → is_blocked r log i d ≡ true → 0 < highest_held r (1 - log)
-blocked_held n s r stands log i d l b = found (first_at (blocks i) d (drop d (log_of r (1 - log)))) refl b
+blocked_held n s r stands log i d l b = found (position_from (blocks i) d (drop d (log_of r (1 - log)))) refl b
   where
-    found : (o : Option ℕ) → first_at (blocks i) d (drop d (log_of r (1 - log))) ≡ o → is_some o ≡ true → 0 < highest_held r (1 - log)
+    found : (o : Option ℕ) → position_from (blocks i) d (drop d (log_of r (1 - log))) ≡ o → is_some o ≡ true → 0 < highest_held r (1 - log)
     found None e q = absurd (grind arith)
     found (Some j) e q =
         let far : List Entry = log_of r (1 - log) in
@@ -147,9 +147,9 @@ module _ (f : ℕ) (r : Replica) (size : r.n ≡ 2 * f + 1) (some_fail : 0 < f) 
 
   -- an answer, by the state of its entry
   on_answer_lem : (a : Answer) → r.seat ≡ m.log
-      → ((d : ℕ) → (a ≡ Vote d) ⊎ (a ≡ Reply d) → d ≤ 128)
-      → ((d : ℕ) → a ≡ Vote d → d ≡ e.dependency)
-      → ((A : ℕ → column.Answer) → column.Puts (answers_of e.tally.answers) m.from (answer_of a) A
+      → ((d : ℕ) → (Some a ≡ Some (Vote d)) ⊎ (Some a ≡ Some (Reply d)) → d ≤ 128)
+      → ((d : ℕ) → Some a ≡ Some (Vote d) → d ≡ e.dependency)
+      → ((A : ℕ → column.Answer) → column.Puts (answers_of e.tally.answers) m.from (answer_of (Some a)) A
       → Act r.n f number_of holder_of g m.entry r.seat S (cell_at r (other g)) (cell_of e) (takeover_in r.takeover) (column.tallying A (cell_of e)) (takeover_in r.takeover) none [])
       → (st : State) → e.state ≡ st → Turns (on_answer st a r m e)
   unfolding hears
@@ -158,8 +158,8 @@ module _ (f : ℕ) (r : Replica) (size : r.n ≡ 2 * f + 1) (some_fail : 0 < f) 
       let stands_e = stands.entries m.log (m.entry - 1) valid.log (let l = valid.entry_from_one in let h = valid.entry_to_last in omega arith) in
       hears_answer r.n f r.seat size few r stands S g m.log m.entry named valid.entry_from_one valid.entry_to_last own
       m.from a seat_s from_seat stands_e fits votes
-      (act (answers_of (set e.tally.answers m.from a))
-      (puts_one answer_of Unheard a e.tally.answers m.from (let l = from_seat in omega (arith, stands_e.answers.seven))))
+      (act (answers_of (set e.tally.answers m.from (Some a)))
+      (puts_one answer_of None (Some a) e.tally.answers m.from (let l = from_seat in omega (arith, stands_e.answers.seven))))
   on_answer_lem a own fits votes act Accepted st = rest r.n f r.seat r stands S g m.log m.entry named valid.entry_from_one valid.entry_to_last
   on_answer_lem a own fits votes act Committed st = rest r.n f r.seat r stands S g m.log m.entry named valid.entry_from_one valid.entry_to_last
 

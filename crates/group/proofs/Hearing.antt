@@ -1,5 +1,5 @@
 -- Counting an answer, an AcceptOk or a report is a turn, and so is what the count leads to.
-use Rattle.std.proofs.Common.{◌≡◌, ℕ, ◌+◌, ◌*◌, ◌<◌, ◌≤◌, Bool, true, false, not, ◌&&◌, eqb, leb, ◌⊎◌, List, [], length, get_or, set, None, Option, sym, refl, ap, ◌∙◌, subst, inl, inr, arith}
+use Rattle.std.proofs.Common.{◌≡◌, ℕ, ◌+◌, ◌*◌, ◌<◌, ◌≤◌, Bool, true, false, not, ◌&&◌, eqb, leb, ◌⊎◌, List, [], length, get_or, set, Some, None, Option, sym, refl, ap, ◌∙◌, subst, inl, inr, arith}
 use mathlib.Core.Option.{some, none}
 use mathlib.Core.Option as maybe
 use Rattle.std.proofs.lemmas.List.{get_or-set_same, get_or-set_other}
@@ -14,9 +14,9 @@ use Rattle.block.specs.declared.message.Message.{Message}
 use Rattle.column.specs.Cells.{Cell, agreed, within, Body, Body.accept_at, Body.accept_ok, Body.committed_as, Message.message}
 use Rattle.column.specs.Cells as column
 use Rattle.column.specs.Moves.{Act, Act.commits_fast, Act.settles, Act.counts_accept, Act.commits_first, Act.rests, Turn.once, Turn.counted}
-use Rattle.scan.specs.Scans.{counted as counted_in}
+use Rattle.std.specs.List.{count_by as counted_in}
 use Rattle.entry.specs.declared.answers.Answer.{Answer}
-use Rattle.entry.specs.declared.answers.Answer.TheVariants.{Unheard, Vote, Reply}
+use Rattle.entry.specs.declared.answers.Answer.TheVariants.{Vote, Reply}
 use Rattle.entry.specs.declared.entry.Entry.{Entry}
 use Rattle.entry.specs.declared.entry.Progress.{Progress}
 use Rattle.entry.specs.declared.entry.Progress.TheVariants.{Waits, Accepts, Commits}
@@ -47,38 +47,38 @@ accepted_only Answered o = absurd (grind arith)
 accepted_only Accepted o = refl
 accepted_only Committed o = absurd (grind arith)
 
-agreed_vote : (a : Answer) → agreed (answer_of a) ≡ is_vote a
-agreed_vote Unheard = refl
-agreed_vote (Vote d) = refl
-agreed_vote (Reply d) = refl
+agreed_vote : (a : Option Answer) → agreed (answer_of a) ≡ is_vote a
+agreed_vote None = refl
+agreed_vote (Some (Vote d)) = refl
+agreed_vote (Some (Reply d)) = refl
 
 -- an answer is within a dependency in the one sense and in the other, where a vote has the proposed dependency p
-within_same : (p d : ℕ) (a : Answer) → ((x : ℕ) → a ≡ Vote x → x ≡ p) → within p d (answer_of a) ≡ is_within d a
-within_same p d Unheard own = refl
-within_same p d (Vote x) own = rw (own x refl)
-within_same p d (Reply x) own = refl
+within_same : (p d : ℕ) (a : Option Answer) → ((x : ℕ) → a ≡ Some (Vote x) → x ≡ p) → within p d (answer_of a) ≡ is_within d a
+within_same p d None own = refl
+within_same p d (Some (Vote x)) own = rw (own x refl)
+within_same p d (Some (Reply x)) own = refl
 
 -- one answer more keeps an entry standing
-pub noted_stands_at : (n : ℕ) → n ≤ 7 → (e : Entry) (from : ℕ) (a : Answer) → from < n → StandingEntry n e → e.state ≡ Answered
-    → ((d : ℕ) → (a ≡ Vote d) ⊎ (a ≡ Reply d) → d ≤ 128)
-    → ((d : ℕ) → a ≡ Vote d → d ≡ e.dependency)
+pub noted_stands_at : (n : ℕ) → n ≤ 7 → (e : Entry) (from : ℕ) (a : Option Answer) → from < n → StandingEntry n e → e.state ≡ Answered
+    → ((d : ℕ) → (a ≡ Some (Vote d)) ⊎ (a ≡ Some (Reply d)) → d ≤ 128)
+    → ((d : ℕ) → a ≡ Some (Vote d) → d ≡ e.dependency)
     → StandingEntry n (with_answers e (set e.tally.answers from a))
 noted_stands_at n few e from a seat stands_e st fits own =
-    let xs : List Answer = e.tally.answers in
+    let xs : List (Option Answer) = e.tally.answers in
     let inside : from < length xs = omega (arith, stands_e.answers.seven) in
     record {
-      answers = seated_more n from Unheard a xs seat stands_e.answers;
+      answers = seated_more n from None a xs seat stands_e.answers;
       accepts = stands_e.accepts;
       low = λ d w. elim (cases_eq w.0 from) [
-        | inl same ↦ fits d (subst (λ v. (v ≡ Vote d) ⊎ (v ≡ Reply d)) (ap (λ k. get_or (set xs from a) k Unheard) same ∙ get_or-set_same xs from a Unheard inside) w.1)
-        | inr ne ↦ stands_e.low d (w.0, subst (λ v. (v ≡ Vote d) ⊎ (v ≡ Reply d)) (get_or-set_other xs from w.0 a Unheard ne) w.1)
+        | inl same ↦ fits d (subst (λ v. (v ≡ Some (Vote d)) ⊎ (v ≡ Some (Reply d))) (ap (λ k. get_or (set xs from a) k None) same ∙ get_or-set_same xs from a None inside) w.1)
+        | inr ne ↦ stands_e.low d (w.0, subst (λ v. (v ≡ Some (Vote d)) ⊎ (v ≡ Some (Reply d))) (get_or-set_other xs from w.0 a None ne) w.1)
       ];
       dependency = stands_e.dependency;
       untallied = λ q. absurd (let z = st in grind arith);
       bare = stands_e.bare;
       votes = λ c d o q. elim (cases_eq c from) [
-        | inl same ↦ own d (sym (ap (λ k. get_or (set xs from a) k Unheard) same ∙ get_or-set_same xs from a Unheard inside) ∙ q)
-        | inr ne ↦ stands_e.votes c d o (sym (get_or-set_other xs from c a Unheard ne) ∙ q)
+        | inl same ↦ own d (sym (ap (λ k. get_or (set xs from a) k None) same ∙ get_or-set_same xs from a None inside) ∙ q)
+        | inr ne ↦ stands_e.votes c d o (sym (get_or-set_other xs from c a None ne) ∙ q)
       ];
     }
 
@@ -109,7 +109,7 @@ module _ (n f s : ℕ) (size : n ≡ 2 * f + 1) (few : n ≤ 7) (r : Replica) (s
     commits_at_once : has_fast_quorum n x ≡ true → Does n f s r stands S g log i named low high (told (committing x x.value x.dependency, Commits))
     commits_at_once enough =
         let votes : count (λ c. agreed (answers_of x.tally.answers c)) n ≡ counted_in is_vote x.tally.answers =
-        count_seated (λ a. agreed (answer_of a)) Unheard n x.tally.answers few refl stands_x.answers
+        count_seated (λ a. agreed (answer_of a)) None n x.tally.answers few refl stands_x.answers
         ∙ counted_alike (λ a. agreed (answer_of a)) is_vote x.tally.answers agreed_vote in
         let quorum : fast_quorum_of n ≤ counted_in is_vote x.tally.answers = grind (arith, nat_tests) in
         let many : 2 * f ≤ count (λ c. agreed (answers_of x.tally.answers c)) n = omega arith in
@@ -120,15 +120,15 @@ module _ (n f s : ℕ) (size : n ≡ 2 * f + 1) (few : n ≤ 7) (r : Replica) (s
 
     pub settles_now : s < n → can_settle n x ≡ true → Does n f s r stands S g log i named low high (told (settling n s x, Accepts))
     settles_now seated_s enough =
-        let ys : List Answer = x.tally.answers in
+        let ys : List (Option Answer) = x.tally.answers in
         let d : ℕ = settled ys n in
         let heard : majority_of n ≤ counted_in is_answer ys = grind (arith, nat_tests) in
         let support = (answers_settle n ys stands_x.low heard).supported in
-        let same : count (λ c. within x.dependency d (answers_of ys c)) n ≡ count (λ c. is_within d (get_or ys c Unheard)) n =
-        count_alike (λ c. within x.dependency d (answers_of ys c)) (λ c. is_within d (get_or ys c Unheard)) n
-        (λ c. within_same x.dependency d (get_or ys c Unheard) (λ v q. stands_x.votes c v (rw st) q)) in
-        let seats : count (λ c. is_within d (get_or ys c Unheard)) n ≡ counted_in (is_within d) ys =
-        count_seated (is_within d) Unheard n ys few refl stands_x.answers in
+        let same : count (λ c. within x.dependency d (answers_of ys c)) n ≡ count (λ c. is_within d (get_or ys c None)) n =
+        count_alike (λ c. within x.dependency d (answers_of ys c)) (λ c. is_within d (get_or ys c None)) n
+        (λ c. within_same x.dependency d (get_or ys c None) (λ v q. stands_x.votes c v (rw st) q)) in
+        let seats : count (λ c. is_within d (get_or ys c None)) n ≡ counted_in (is_within d) ys =
+        count_seated (is_within d) None n ys few refl stands_x.answers in
         let many : f < count (λ c. within x.dependency d (answers_of ys c)) n = omega arith in
         writes n f s r stands S g log i named low high (settling n s x) (announced r.seat log i (settling n s x) Accepts)
         (some (accept_at 0 (content_of x.value d))) refl (
@@ -150,18 +150,18 @@ module _ (n f s : ℕ) (size : n ≡ 2 * f + 1) (few : n ≤ 7) (r : Replica) (s
 
   -- an answer to the owner's proposal
   pub hears_answer : (from : ℕ) (a : Answer) → s < n → from < n → StandingEntry n e
-      → ((d : ℕ) → (a ≡ Vote d) ⊎ (a ≡ Reply d) → d ≤ 128)
-      → ((d : ℕ) → a ≡ Vote d → d ≡ e.dependency)
-      → Act n f number_of holder_of g i s S (cell_at r (other g)) (cell_of e) t (cell_of (with_answers e (set e.tally.answers from a))) t none []
+      → ((d : ℕ) → (Some a ≡ Some (Vote d)) ⊎ (Some a ≡ Some (Reply d)) → d ≤ 128)
+      → ((d : ℕ) → Some a ≡ Some (Vote d) → d ≡ e.dependency)
+      → Act n f number_of holder_of g i s S (cell_at r (other g)) (cell_of e) t (cell_of (with_answers e (set e.tally.answers from (Some a)))) t none []
       → Does n f s r stands S g log i named low high (told (hearing n s e from a))
   hears_answer from a seat_s seat stands_e fits own act =
-      let test : Bool = counts_answers e && (leb from 6 && not (is_answer (get_or e.tally.answers from Unheard))) in
+      let test : Bool = counts_answers e && (leb from 6 && not (is_answer (get_or e.tally.answers from None))) in
       elim (cases_Bool test) [
         | inl q ↦
-            let counts = (and_parts (counts_answers e) (leb from 6 && not (is_answer (get_or e.tally.answers from Unheard))) q).0 in
+            let counts = (and_parts (counts_answers e) (leb from 6 && not (is_answer (get_or e.tally.answers from None))) q).0 in
             let st = open_only e.state (and_parts (is_open e.state) (eqb e.promised 0) counts).0 in
             let pr : e.promised ≡ 0 = eqb-true e.promised 0 (and_parts (is_open e.state) (eqb e.promised 0) counts).1 in
-            rw q (decides (with_answers e (set e.tally.answers from a)) (noted_stands_at n few e from a seat stands_e st fits own) st pr act seat_s)
+            rw q (decides (with_answers e (set e.tally.answers from (Some a))) (noted_stands_at n few e from (Some a) seat stands_e st fits own) st pr act seat_s)
         | inr q ↦ rw q (writes n f s r stands S g log i named low high e None none refl ([], once rests))
       ]
 

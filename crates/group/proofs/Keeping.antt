@@ -13,7 +13,7 @@ use Rattle.block.specs.Messages.{value_number, report_number}
 use Rattle.block.specs.Fits.{value_fits, report_fits}
 use Rattle.block.specs.Valid.{Valid}
 use Rattle.entry.specs.declared.answers.Answer.{Answer}
-use Rattle.entry.specs.declared.answers.Answer.TheVariants.{Unheard, Vote, Reply}
+use Rattle.entry.specs.declared.answers.Answer.TheVariants.{Vote, Reply}
 use Rattle.entry.specs.declared.entry.Entry.{Entry}
 use Rattle.entry.specs.declared.entry.State.{State}
 use Rattle.entry.specs.declared.entry.State.TheVariants.{Empty, Answered, Accepted, Committed}
@@ -26,7 +26,7 @@ use Rattle.entry.specs.Owners.{is_open, with_answers, with_accepts, proposing, s
 use Rattle.entry.specs.Quorums.{majority_of}
 use Rattle.entry.specs.declared.entry.Progress.{Progress}
 use Rattle.entry.specs.declared.entry.Progress.TheVariants.{Waits, Accepts, Commits}
-use Rattle.scan.specs.Scans.{counted as counted_in}
+use Rattle.std.specs.List.{count_by as counted_in}
 use Rattle.entry.specs.Reports.{is_reported, choice}
 use Rattle.entry.specs.Takeovers.{takeover_of as takeover_from, begun, is_live, gathered, reporting, agreed}
 use Rattle.entry.specs.Takeovers as takeovers
@@ -164,7 +164,7 @@ module _ (n : ℕ) (e : Entry) (whole : WholeEntry n e) where
   closed_stands x same accepts l past held valued =
       record {
         stands = record {
-          answers = subst (Seated n Unheard) (sym same) st.answers;
+          answers = subst (Seated n None) (sym same) st.answers;
           accepts = accepts;
           low = subst Low (sym same) st.low;
           dependency = l;
@@ -221,7 +221,7 @@ module _ (n : ℕ) (e : Entry) (whole : WholeEntry n e) where
       → WholeEntry n (proposing e seat v d)
   proposing_stands seat v d inside l few valued empty =
       record {
-        stands = noted_stands_at n few (answering e v d d true) seat (Vote d) inside (answering_stands v d d true l valued empty).stands refl
+        stands = noted_stands_at n few (answering e v d d true) seat (Some (Vote d)) inside (answering_stands v d d true l valued empty).stands refl
             (λ x q. let z : d ≡ x = elim q [ inl w ↦ grind arith | inr w ↦ absurd (grind arith) ] in omega arith) (λ x q. grind arith);
         valued = λ q. absurd (valued q);
       }
@@ -443,23 +443,23 @@ module _ (r : Replica) (few : r.n ≤ 7) (some : 2 ≤ majority_of r.n) (seat_s 
   proposal_keeps valued Committed q = whole
 
   -- an answer is counted, or nothing changes
-  hearing_keeps : (a : Answer) → ((d : ℕ) → (a ≡ Vote d) ⊎ (a ≡ Reply d) → d ≤ 128) → ((d : ℕ) → a ≡ Vote d → d ≡ e.dependency)
+  hearing_keeps : (a : Answer) → ((d : ℕ) → (Some a ≡ Some (Vote d)) ⊎ (Some a ≡ Some (Reply d)) → d ≤ 128) → ((d : ℕ) → Some a ≡ Some (Vote d) → d ≡ e.dependency)
       → e.state ≡ Answered → Keeps (hears r m e a)
   unfolding hears
   hearing_keeps a fits own q =
       write (hearing r.n r.seat e m.from a).0
-      (elim (cases_Bool (counts_answers e && (leb m.from 6 && not (is_answer (get_or e.tally.answers m.from Unheard))))) [
-        | inl w ↦ rw w (decided_stands r.n (with_answers e (set e.tally.answers m.from a))
-            (record { stands = noted_stands_at r.n few e m.from a from_seat whole_e.stands q fits own; valued = whole_e.valued }) r.seat seat_s
+      (elim (cases_Bool (counts_answers e && (leb m.from 6 && not (is_answer (get_or e.tally.answers m.from None))))) [
+        | inl w ↦ rw w (decided_stands r.n (with_answers e (set e.tally.answers m.from (Some a)))
+            (record { stands = noted_stands_at r.n few e m.from (Some a) from_seat whole_e.stands q fits own; valued = whole_e.valued }) r.seat seat_s
             (λ z. let y = whole_e.valued z in grind arith))
         | inr w ↦ rw w whole_e
       ])
-      (elim (cases_Bool (counts_answers e && (leb m.from 6 && not (is_answer (get_or e.tally.answers m.from Unheard))))) [
-        | inl w ↦ rw w (λ z. sym (decided_same r.n r.seat (with_answers e (set e.tally.answers m.from a))) ∙ z)
+      (elim (cases_Bool (counts_answers e && (leb m.from 6 && not (is_answer (get_or e.tally.answers m.from None))))) [
+        | inl w ↦ rw w (λ z. sym (decided_same r.n r.seat (with_answers e (set e.tally.answers m.from (Some a)))) ∙ z)
         | inr w ↦ rw w (λ z. z)
       ])
 
-  answer_keeps : (a : Answer) → ((d : ℕ) → (a ≡ Vote d) ⊎ (a ≡ Reply d) → d ≤ 128) → ((d : ℕ) → a ≡ Vote d → d ≡ e.dependency)
+  answer_keeps : (a : Answer) → ((d : ℕ) → (Some a ≡ Some (Vote d)) ⊎ (Some a ≡ Some (Reply d)) → d ≤ 128) → ((d : ℕ) → Some a ≡ Some (Vote d) → d ≡ e.dependency)
       → (st : State) → e.state ≡ st → Keeps (on_answer st a r m e)
   answer_keeps a fits own Empty q = whole
   answer_keeps a fits own Answered q = hearing_keeps a fits own q

@@ -2,27 +2,29 @@
 use Rattle.std.proofs.Common.{◌≡◌, ℕ, zero, suc, ◌+◌, ◌-◌, ◌<◌, ◌≤◌, Bool, true, false, cond, List, [], ◌∷◌, length, get_or, drop, is_some, Some, refl, ap, ◌∙◌, arith}
 use Rattle.std.proofs.lemmas.List.{get_or-drop, length-drop}
 use Rattle.std.proofs.lemmas.Bool.Decides.{nat_tests}
-use Rattle.scan.specs.Scans.{counted, first_at, highest_of}
+use Rattle.std.specs.List.{count_by, position_from}
+use Rattle.scan.specs.Scans.{highest_of}
 use Rattle.entry.specs.declared.entry.Entry.{Entry}
 use Rattle.entry.specs.Entries.{is_held, is_taken, has_answered, blocks}
 use Rattle.card.specs.declared.replica.Replica.{Replica}
 use Rattle.card.specs.Tables.{absent, log_of, entry_at, highest_held, is_blocked}
 use Rattle.group.specs.Scans.{Shaped, ScansFind}
+use Rattle.group.proofs.Counting.{count_by-cons}
 
 module _ {X : Type 0} (p : X → Bool) (d : X) where
   -- where the first is not found, no item passes
-  pub first_none : (xs : List X) (k j : ℕ) → is_some (first_at p k xs) ≡ false → j < length xs → p (get_or xs j d) ≡ false
+  pub first_none : (xs : List X) (k j : ℕ) → is_some (position_from p k xs) ≡ false → j < length xs → p (get_or xs j d) ≡ false
   first_none [] k j e h = absurd (omega arith)
   first_none (x ∷ xs) k zero e h = grind (arith, nat_tests)
   first_none (x ∷ xs) k (suc j) e h = let ih = first_none xs (k + 1) j in grind (arith, nat_tests)
 
   -- what is found passes
-  pub first_passes : (xs : List X) (k j : ℕ) → first_at p k xs ≡ Some j → (k ≤ j) × (p (get_or xs (j - k) d) ≡ true)
+  pub first_passes : (xs : List X) (k j : ℕ) → position_from p k xs ≡ Some j → (k ≤ j) × (p (get_or xs (j - k) d) ≡ true)
   first_passes [] k j e = absurd (grind arith)
   first_passes (x ∷ xs) k j e = by (p x) refl e (first_passes xs (k + 1) j)
     where
-      by : (b : Bool) → p x ≡ b → cond b (Some k) (first_at p (k + 1) xs) ≡ Some j
-          → (first_at p (k + 1) xs ≡ Some j → (k + 1 ≤ j) × (p (get_or xs (j - (k + 1)) d) ≡ true))
+      by : (b : Bool) → p x ≡ b → cond b (Some k) (position_from p (k + 1) xs) ≡ Some j
+          → (position_from p (k + 1) xs ≡ Some j → (k + 1 ≤ j) × (p (get_or xs (j - (k + 1)) d) ≡ true))
           → (k ≤ j) × (p (get_or (x ∷ xs) (j - k) d) ≡ true)
       by true q f rest = let same : k ≡ j = cc in let z : j - k ≡ 0 = omega arith in (omega arith, rw z q)
       by false q f rest =
@@ -31,9 +33,9 @@ module _ {X : Type 0} (p : X → Bool) (d : X) where
           (omega arith, rw z r.1)
 
   -- where some item passes, one is found
-  pub some_found : (xs : List X) (k : ℕ) → 0 < counted p xs → is_some (first_at p k xs) ≡ true
+  pub some_found : (xs : List X) (k : ℕ) → 0 < count_by p xs → is_some (position_from p k xs) ≡ true
   some_found [] k h = absurd (omega arith)
-  some_found (x ∷ xs) k h = let ih = some_found xs (k + 1) in grind (arith, nat_tests)
+  some_found (x ∷ xs) k h = let ih = some_found xs (k + 1) in let e = count_by-cons p x xs in grind (arith, nat_tests)
 
   -- no item above the highest passes
   pub highest_above : (xs : List X) (j : ℕ) → highest_of p xs ≤ j → j < length xs → p (get_or xs j d) ≡ false

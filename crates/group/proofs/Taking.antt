@@ -14,7 +14,7 @@ use Rattle.block.specs.Ballots.{holder_of}
 use Rattle.column.specs.Cells.{Stage.committed, Cell, heard, vote_of, Report.vouched, Report.held, Body, Body.accept_at, Body.accept_ok, Body.committed_as, Body.prepare_ok, Message.message}
 use Rattle.column.specs.Cells as column
 use Rattle.column.specs.Moves.{votes_in, NoneHeld, Picks, Picks.picks_held, Picks.picks_voted, Picks.picks_none, Act, Act.counts_report, Act.chooses, Act.counts_backing, Act.commits_choice, Act.rests, Turn.once, Turn.counted}
-use Rattle.scan.specs.Scans.{counted as counted_in}
+use Rattle.std.specs.List.{count_by as counted_in}
 use Rattle.entry.specs.declared.entry.Entry.{Entry}
 use Rattle.entry.specs.declared.entry.Progress.{Progress}
 use Rattle.entry.specs.declared.entry.Progress.TheVariants.{Waits, Accepts, Commits}

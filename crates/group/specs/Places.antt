@@ -1,11 +1,11 @@
--- A card's table as the argument about whole groups sees it: how it begins, what a write changes, how its seats are counted.
+-- A card's table as the argument about whole groups sees it: how it begins, what a write changes, how its seats are count_by.
 use Rattle.std.specs.Prelude.{◌≡◌, ℕ, ◌≤◌, Bool, true, false, List, length, slice_index_or}
 use Rattle.std.proofs.Math.Option.{none}
 use Rattle.agreement.specs.Logs.{Log}
 use Rattle.agreement.specs.Quorums.{count}
 use Rattle.column.specs.Cells.{New}
 use Rattle.entry.specs.declared.entry.Entry.{Entry}
-use Rattle.scan.specs.Scans.{counted}
+use Rattle.std.specs.List.{count_by}
 use Rattle.card.specs.declared.replica.Replica.{Replica}
 use Rattle.card.specs.Groups.{is_group}
 use Rattle.card.specs.Making.{new_replica}
@@ -36,4 +36,4 @@ EntriesKeepTheirPlaces =
 
 -- in a list of booleans with a place for each seat, as many are set as there are seats of the group whose place is set
 abbrev pub SeatsCount : Type 0
-SeatsCount = (n : ℕ) (xs : List Bool) → n ≤ 7 → Seated n false xs → count (λ c. slice_index_or xs c false) n ≡ counted (λ b. b) xs
+SeatsCount = (n : ℕ) (xs : List Bool) → n ≤ 7 → Seated n false xs → count (λ c. slice_index_or xs c false) n ≡ count_by (λ b. b) xs

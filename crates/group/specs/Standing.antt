@@ -2,7 +2,7 @@
 use Rattle.std.specs.Prelude.{◌≡◌, ℕ, ◌<◌, ◌≤◌, true, false, List, length, Some, None, Option, ◌≢◌, slice_index_or}
 use Rattle.block.specs.declared.message.Report.TheVariants as report
 use Rattle.block.specs.declared.message.Value.TheVariants as value
-use Rattle.entry.specs.declared.answers.Answer.TheVariants.{Unheard, Vote}
+use Rattle.entry.specs.declared.answers.Answer.TheVariants.{Vote}
 use Rattle.entry.specs.declared.entry.Entry.{Entry}
 use Rattle.entry.specs.declared.entry.State.TheVariants.{Empty}
 use Rattle.entry.specs.declared.reports.Reported.{Reported}
@@ -20,15 +20,15 @@ pub record Seated {X : Type 0} (n : ℕ) (none : X) (xs : List X) : Type 0 where
   pub group : (c : ℕ) → n ≤ c → slice_index_or xs c none ≡ none
 
 pub record StandingEntry (n : ℕ) (e : Entry) : Type 0 where
-  pub answers : Seated n Unheard e.tally.answers
+  pub answers : Seated n None e.tally.answers
   pub accepts : Seated n false e.tally.accepts
   pub low : Low e.tally.answers
   pub dependency : e.dependency ≤ 128
   -- an empty entry was not answered, and nothing was counted for it
-  pub untallied : e.state ≡ Empty → (c : ℕ) → slice_index_or e.tally.answers c Unheard ≡ Unheard
+  pub untallied : e.state ≡ Empty → (c : ℕ) → slice_index_or e.tally.answers c None ≡ None
   pub bare : e.state ≡ Empty → has_answered e ≡ false
   -- while answers count, a vote has the proposed dependency
-  pub votes : (c d : ℕ) → is_open e.state ≡ true → slice_index_or e.tally.answers c Unheard ≡ Vote d → d ≡ e.dependency
+  pub votes : (c d : ℕ) → is_open e.state ≡ true → slice_index_or e.tally.answers c None ≡ Some (Vote d) → d ≡ e.dependency
 
 pub record StandingTakeover (n : ℕ) (t : Takeover) : Type 0 where
   pub dependencies : (c : ℕ) (x : Reported) → slice_index_or t.reports c None ≡ Some x → x.dependency ≤ 128

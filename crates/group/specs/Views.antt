@@ -14,7 +14,7 @@ use Rattle.block.specs.declared.message.Value.TheVariants.{Nothing, Noop, Comman
 use Rattle.column.specs.Cells.{Stage, Stage.empty, Stage.answered, Stage.accepted, Stage.committed, Answer.silent, Answer.agrees, Answer.differs, Cell, cell, Report.unheard, Report.bare, Report.vouched, Report.held, Body, Body.fast_accept, Body.fast_ok, Body.fast_reply, Body.accept_at, Body.accept_ok, Body.committed_as, Body.prepare, Body.prepare_ok, Body.reject, Message.message}
 use Rattle.column.specs.Cells as column
 use Rattle.entry.specs.declared.answers.Answer.{Answer}
-use Rattle.entry.specs.declared.answers.Answer.TheVariants.{Unheard, Vote, Reply}
+use Rattle.entry.specs.declared.answers.Answer.TheVariants.{Vote, Reply}
 use Rattle.entry.specs.declared.entry.Entry.{Entry}
 use Rattle.entry.specs.declared.entry.State.{State}
 use Rattle.entry.specs.declared.entry.State.TheVariants.{Empty, Answered, Accepted, Committed}
@@ -46,13 +46,13 @@ value_of (Command c) = command c
 abbrev pub content_of : Value → ℕ → Content
 content_of v d = content (value_of v) d
 
-abbrev pub answer_of : Answer → column.Answer
-answer_of Unheard = silent
-answer_of (Vote d) = agrees
-answer_of (Reply d) = differs d
+abbrev pub answer_of : Option Answer → column.Answer
+answer_of None = silent
+answer_of (Some (Vote d)) = agrees
+answer_of (Some (Reply d)) = differs d
 
-abbrev pub answers_of : List Answer → ℕ → column.Answer
-answers_of xs c = answer_of (slice_index_or xs c Unheard)
+abbrev pub answers_of : List (Option Answer) → ℕ → column.Answer
+answers_of xs c = answer_of (slice_index_or xs c None)
 
 abbrev pub seats_of : List Bool → ℕ → Bool
 seats_of xs c = slice_index_or xs c false

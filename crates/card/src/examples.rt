@@ -1,8 +1,0 @@
-// The rules at work.
-ghost use Rattle.std.specs.Prelude.{◌≡◌, true};
-ghost use Rattle.card.specs.Examples.{all_pass, examples};
-
-// Every worked example comes out as it should.
-pub fn examples_hold()
-    ensures { all_pass examples ≡ true }
-{}
