@@ -1,6 +1,6 @@
 -- The reports that a takeover has gathered, one place for each seat, and what they let it choose.
 use Rattle.std.specs.Prelude.{ℕ, ◌+◌, Bool, true, false, cond, List, is_some, Some, None, Option, count_by, nat_le, slice_index_or}
-use Rattle.std.specs.List.{fold, position}
+use Rattle.std.specs.List.{fold, position_from}
 use Rattle.block.specs.declared.message.Report.{Report}
 use Rattle.block.specs.declared.message.Report.TheVariants.{Empty, Vote, Accepted}
 use Rattle.block.specs.declared.message.Value.{Value}
@@ -53,7 +53,7 @@ report_at reports (Some seat) = slice_index_or reports seat None
 
 -- the report of the lowest seat that voted
 abbrev pub first_vote : List (Option Reported) → Option Reported
-first_vote reports = report_at reports (position is_vote_report reports)
+first_vote reports = report_at reports (position_from is_vote_report 0 reports)
 
 -- the value and the dependency of a report; a no-op where there is none
 abbrev pub carried_by : Option Reported → Value × ℕ

@@ -1,6 +1,6 @@
 // The reports that a takeover has gathered, and what they let it choose.
 ghost use Rattle.std.specs.Prelude.{◌≡◌, ◌<◌, None, slice_index_or, IfSome};
-ghost use Rattle.std.specs.List.{position};
+ghost use Rattle.std.specs.List.{position_from};
 ghost use Rattle.entry.specs.Reports.{is_reported, is_vote_report, better, best_accepted, votes_for, may_be_committed, first_vote, carried_by, choice};
 
 use crate::quorum::majority;
@@ -71,7 +71,7 @@ fn may_be_committed(reports: &[Option<Reported>; 7], owner: u32, n: u32) -> bool
 
 // The lowest seat that voted.
 fn first_voter(reports: &[Option<Reported>; 7]) -> Option<usize>
-    ensures value { result ≡ position is_vote_report reports.now }
+    ensures value { result ≡ position_from is_vote_report 0 reports.now }
     ensures bound { IfSome result (λ seat. seat < 7) }
 {
     reports.iter().position(|reported| is_vote(reported))

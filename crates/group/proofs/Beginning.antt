@@ -1,9 +1,10 @@
 -- A new card.
-use Rattle.std.proofs.Common.{◌≡◌, ℕ, zero, suc, ◌≤◌, false, ◌⊎◌, [], length, get_or, replicate, refl, ap, ◌∙◌, inl, inr, arith}
+use Rattle.std.proofs.Common.{◌≡◌, None, Option, ℕ, zero, suc, ◌≤◌, false, ◌⊎◌, [], length, get_or, replicate, refl, ap, ◌∙◌, inl, inr, arith}
 use lib.ListN.{length-replicate, get_or-replicate}
 use Rattle.agreement.specs.Logs.{Log, Log.pilot, Log.copilot}
 use Rattle.column.specs.Cells.{New}
 use Rattle.entry.specs.declared.entry.Entry.{Entry}
+use Rattle.entry.specs.declared.answers.Answer.{Answer}
 use Rattle.entry.specs.Entries.{empty}
 use Rattle.card.specs.Making.{new_replica, empty_logs}
 use Rattle.card.specs.Tables.{absent}
@@ -24,7 +25,7 @@ empty_stands n =
     record {
       answers = seated n None;
       accepts = seated n false;
-      low = λ d g. absurd (let e = none_past None 7 g.0 in grind arith);
+      low = λ d g. absurd (let e = none_past {X = Option Answer} None 7 g.0 in grind arith);
       dependency = omega arith;
       untallied = λ e c. none_past None 7 c;
       bare = λ e. refl;
