@@ -1,12 +1,11 @@
 // The ordering calls of a card are those of its replica.
 ghost use Rattle.std.specs.Prelude.{◌≡◌};
-ghost use Rattle.card.specs.Steps.{state_after, answer_of};
 ghost use Rattle.card.specs.Making.{looked_up};
 ghost use Rattle.card.specs.Proposing.{propose};
 ghost use Rattle.card.specs.Delivering.{deliver};
 ghost use Rattle.card.specs.Settling.{settle};
 ghost use Rattle.card.specs.Taking.{takeover};
-ghost use Rattle.fitted.specs.Meanings.{meaning_of, with_replica};
+ghost use Rattle.fitted.specs.Meanings.{Follows};
 
 use crate::fitting::Card;
 use block::Message;
@@ -23,29 +22,25 @@ impl<M: Machine> Card<M> {
     }
 
     pub fn propose(&mut self, command: Command) -> Result<Option<Message>, Refusal>
-        ensures state { meaning_of M.Machine.rule M.Machine.means self.new ≡ with_replica (meaning_of M.Machine.rule M.Machine.means self.old) (state_after self.old.replica (propose self.old.replica command)) }
-        ensures answer { result ≡ answer_of (propose self.old.replica command) }
+        ensures { Follows M.Machine self.old self.new (propose self.old.replica command) result }
     {
         self.replica.propose(command)
     }
 
     pub fn deliver(&mut self, block: &[u8]) -> Result<Option<Message>, Refusal>
-        ensures state { meaning_of M.Machine.rule M.Machine.means self.new ≡ with_replica (meaning_of M.Machine.rule M.Machine.means self.old) (state_after self.old.replica (deliver self.old.replica block.now)) }
-        ensures answer { result ≡ answer_of (deliver self.old.replica block.now) }
+        ensures { Follows M.Machine self.old self.new (deliver self.old.replica block.now) result }
     {
         self.replica.deliver(block)
     }
 
     pub fn settle(&mut self, log: u32, entry: u32) -> Result<Option<Message>, Refusal>
-        ensures state { meaning_of M.Machine.rule M.Machine.means self.new ≡ with_replica (meaning_of M.Machine.rule M.Machine.means self.old) (state_after self.old.replica (settle self.old.replica log entry)) }
-        ensures answer { result ≡ answer_of (settle self.old.replica log entry) }
+        ensures { Follows M.Machine self.old self.new (settle self.old.replica log entry) result }
     {
         self.replica.settle(log, entry)
     }
 
     pub fn takeover(&mut self, log: u32, entry: u32) -> Result<Option<Message>, Refusal>
-        ensures state { meaning_of M.Machine.rule M.Machine.means self.new ≡ with_replica (meaning_of M.Machine.rule M.Machine.means self.old) (state_after self.old.replica (takeover self.old.replica log entry)) }
-        ensures answer { result ≡ answer_of (takeover self.old.replica log entry) }
+        ensures { Follows M.Machine self.old self.new (takeover self.old.replica log entry) result }
     {
         self.replica.takeover(log, entry)
     }

@@ -7,7 +7,7 @@ use command::Command;
 use machine::Outcome;
 
 // An entry of a log: 0.5 is entry 5 of log 0.
-#[derive(Clone, Copy, PartialEq, Eq)]
+#[derive(Clone, Copy, PartialEq, Eq, Debug)]
 pub struct Place {
     pub log: u32,
     pub entry: u32,
@@ -25,7 +25,7 @@ impl Place {
     }
 }
 
-#[derive(Clone, Copy, PartialEq, Eq)]
+#[derive(Clone, Copy, PartialEq, Eq, Debug)]
 pub enum Run {
     // A no-op was passed.
     Noop,

@@ -1,12 +1,14 @@
--- What a list of assigned bays holds after a push and after a removal.
-use Rattle.std.proofs.Common.{◌≡◌, ℕ, zero, suc, ◌+◌, ◌<◌, true, cond, eqb, List, [], ◌∷◌, ◌++◌, map, length, get_or, set, replicate, sym, refl, ap, ◌∙◌, ⊎_elim, arith}
-use Rattle.std.specs.List.{remove, range_with_len}
+-- What a list of assigned bays holds, and what it holds after a write.
+use Rattle.std.proofs.Common.{◌≡◌, ℕ, ◌+◌, ◌<◌, ◌≤◌, true, cond, eqb, not, ◌==◌, count_by, filter, find, List, [], ◌∷◌, ◌++◌, map, length, get_or, set, replicate, sym, refl, ap, ◌∙◌, ⊎_elim, arith}
+use Rattle.std.specs.List.{range_with_len}
+use Rattle.std.specs.Option.{option_map_or}
 use Rattle.std.proofs.lemmas.Bool.Decides.{nat_tests}
-use Rattle.std.proofs.lemmas.Bool.{cases_eq}
+use Rattle.std.proofs.lemmas.Bool.{cases_eq, cases_lt}
 use Rattle.std.proofs.lemmas.List.FromFn.{length-map-range_with_len, get_or-map-range_with_len}
-use Rattle.std.proofs.lemmas.List.{ext_get_or, length-set, get_or-set_same, get_or-set_other}
+use Rattle.std.proofs.lemmas.List.{ext_get_or, get_or_past, length-set, get_or-set_same, get_or-set_other}
+use Rattle.std.proofs.lemmas.List.Sums.{sum_by-set}
 use Rattle.machine.specs.declared.list.Assigned.{Assigned}
-use Rattle.machine.specs.Listing.{holding, listed, tabled, pair_at}
+use Rattle.machine.specs.Listing.{holding, listed, tabled}
 
 push_other : (ps : List Assigned) (p : Assigned) (k : ℕ) → (p.bay ≡ k → ⊥) → holding (ps ++ (p ∷ [])) k ≡ holding ps k
 push_other [] p k ne = grind (arith, nat_tests)
@@ -31,43 +33,28 @@ push_listed (q ∷ ps) p ok low some free =
     let same = push_other ps p q.bay apart in
     grind (arith, nat_tests)
 
-found_some : (ps : List Assigned) (i : ℕ) (d : Assigned) → listed ps ≡ true → i < length ps → 0 < holding ps (get_or ps i d).bay
-found_some [] i d ok within = omega arith
-found_some (q ∷ ps) zero d ok within = grind (arith, nat_tests)
-found_some (q ∷ ps) (suc i) d ok within =
-    let rest : listed ps ≡ true = grind (arith, nat_tests) in
-    let less : i < length ps = omega arith in
-    let more = found_some ps i d rest less in
+-- the pairs of the other bays
+abbrev pub others : ℕ → List Assigned → List Assigned
+others b ps = filter (λ p. not (p.bay == b)) ps
+
+others_same : (ps : List Assigned) (b : ℕ) → holding (others b ps) b ≡ 0
+others_same [] b = refl
+others_same (p ∷ ps) b =
+    let more = others_same ps b in
     grind (arith, nat_tests)
 
-removed_other : (ps : List Assigned) (i : ℕ) (d : Assigned) (k : ℕ) → i < length ps → ((get_or ps i d).bay ≡ k → ⊥) → holding (remove ps i) k ≡ holding ps k
-removed_other [] i d k within ne = absurd (omega arith)
-removed_other (q ∷ ps) zero d k within ne = grind (arith, nat_tests)
-removed_other (q ∷ ps) (suc i) d k within ne =
-    let less : i < length ps = omega arith in
-    ap (cond (eqb q.bay k) q.array) (removed_other ps i d k less ne)
-
-removed_same : (ps : List Assigned) (i : ℕ) (d : Assigned) → listed ps ≡ true → i < length ps → holding (remove ps i) (get_or ps i d).bay ≡ 0
-removed_same [] i d ok within = absurd (omega arith)
-removed_same (q ∷ ps) zero d ok within = grind (arith, nat_tests)
-removed_same (q ∷ ps) (suc i) d ok within =
-    let rest : listed ps ≡ true = grind (arith, nat_tests) in
-    let less : i < length ps = omega arith in
-    let some = found_some ps i d rest less in
-    let apart : q.bay ≡ (get_or ps i d).bay → ⊥ = grind (arith, nat_tests) in
-    let more = removed_same ps i d rest less in
+others_other : (ps : List Assigned) (b k : ℕ) → (b ≡ k → ⊥) → holding (others b ps) k ≡ holding ps k
+others_other [] b k ne = refl
+others_other (p ∷ ps) b k ne =
+    let more = others_other ps b k ne in
     grind (arith, nat_tests)
 
-removed_listed : (ps : List Assigned) (i : ℕ) (d : Assigned) → listed ps ≡ true → i < length ps → listed (remove ps i) ≡ true
-removed_listed [] i d ok within = absurd (omega arith)
-removed_listed (q ∷ ps) zero d ok within = grind (arith, nat_tests)
-removed_listed (q ∷ ps) (suc i) d ok within =
+others_listed : (ps : List Assigned) (b : ℕ) → listed ps ≡ true → listed (others b ps) ≡ true
+others_listed [] b ok = refl
+others_listed (p ∷ ps) b ok =
     let rest : listed ps ≡ true = grind (arith, nat_tests) in
-    let less : i < length ps = omega arith in
-    let some = found_some ps i d rest less in
-    let apart : (get_or ps i d).bay ≡ q.bay → ⊥ = grind (arith, nat_tests) in
-    let same = removed_other ps i d q.bay less apart in
-    let more = removed_listed ps i d rest less in
+    let more = others_listed ps b rest in
+    let same : (b ≡ p.bay → ⊥) → holding (others b ps) p.bay ≡ holding ps p.bay = others_other ps b p.bay in
     grind (arith, nat_tests)
 
 -- a list made from a function of the index, where the function changes at one place
@@ -90,7 +77,7 @@ tabled_set : (ps qs : List Assigned) (b v : ℕ) → b < 64 → holding qs b ≡
 unfolding tabled
 tabled_set ps qs b v = counted_set (holding ps) (holding qs) 64 b v
 
-pub tabled_at : (ps : List Assigned) (b : ℕ) → b < 64 → get_or (tabled ps) b 0 ≡ holding ps b
+tabled_at : (ps : List Assigned) (b : ℕ) → b < 64 → get_or (tabled ps) b 0 ≡ holding ps b
 unfolding tabled
 tabled_at ps b low = get_or-map-range_with_len (holding ps) 0 64 b b 0 low (omega arith)
 
@@ -100,36 +87,17 @@ tabled_length ps = length-map-range_with_len (holding ps) 0 64
 
 -- how many numbers of a list are 0
 abbrev zeros : List ℕ → ℕ
-zeros [] = 0
-zeros (x ∷ xs) = cond (eqb x 0) 1 0 + zeros xs
+zeros t = count_by (λ n. n == 0) t
 
 zeros_set : (t : List ℕ) (i a : ℕ) → i < length t → get_or t i 0 ≡ 0 → 0 < a → zeros (set t i a) + 1 ≡ zeros t
-zeros_set [] i a within free some = absurd (omega arith)
-zeros_set (x ∷ t) zero a within free some = grind (arith, nat_tests)
-zeros_set (x ∷ t) (suc i) a within free some =
-    let less : i < length t = omega arith in
-    let more = zeros_set t i a less free some in
-    omega arith
-
-zeros_some : (t : List ℕ) (i : ℕ) → i < length t → get_or t i 0 ≡ 0 → 0 < zeros t
-zeros_some [] i within free = omega arith
-zeros_some (x ∷ t) zero within free = grind (arith, nat_tests)
-zeros_some (x ∷ t) (suc i) within free =
-    let less : i < length t = omega arith in
-    let more = zeros_some t i less free in
-    omega arith
-
-zeros_all : (f : ℕ → ℕ) → ((k : ℕ) → f k ≡ 0) → (a n : ℕ) → zeros (map f (range_with_len a n)) ≡ n
-zeros_all f none a zero = refl
-zeros_all f none a (suc n) =
-    let more = zeros_all f none (a + 1) n in
-    let here = none a in
+zeros_set t i a within free some =
+    let moved = sum_by-set (λ n. cond (n == 0) 1 0) t i a 0 within in
     grind (arith, nat_tests)
 
 -- each pair takes one bay
 zeros_first : zeros (tabled []) ≡ 64
 unfolding tabled
-zeros_first = zeros_all (holding []) (λ k. refl) 0 64
+zeros_first = refl
 
 zeros_left : (ps : List Assigned) → listed ps ≡ true → zeros (tabled ps) + length ps ≡ 64
 zeros_left [] ok = ap (λ n. n + 0) zeros_first
@@ -146,29 +114,63 @@ zeros_left (p ∷ ps) ok =
     omega arith
 
 -- so there is room for one more where a bay is free
-pub room : (ps : List Assigned) (b : ℕ) → listed ps ≡ true → b < 64 → get_or (tabled ps) b 0 ≡ 0 → length ps < 64
+room : (ps : List Assigned) (b : ℕ) → listed ps ≡ true → b < 64 → holding ps b ≡ 0 → length ps < 64
 room ps b ok low free =
     let all = zeros_left ps ok in
     let within : b < length (tabled ps) = omega (arith, tabled_length ps) in
-    let one = zeros_some (tabled ps) b within free in
+    let one = zeros_set (tabled ps) b 1 within (tabled_at ps b low ∙ free) (omega arith) in
     omega arith
 
--- what `assign` leaves
-pub assigned : (ps qs : List Assigned) (b v : ℕ) → listed ps ≡ true → b < 64 → 0 < v → get_or (tabled ps) b 0 ≡ 0 → qs ≡ ps ++ (record { bay = b; array = v } ∷ []) → (listed qs ≡ true) × (tabled qs ≡ set (tabled ps) b v)
-assigned ps qs b v ok low some free e =
-    let p : Assigned = record { bay = b; array = v } in
-    let none = sym (tabled_at ps b low) ∙ free in (
-      ap listed e ∙ push_listed ps p ok low some none,
-      ap tabled e ∙ tabled_set ps (ps ++ (p ∷ [])) b v low (push_same ps p ok none) (λ k ne. push_other ps p k ne),
-    )
+-- no pair is of a bay that there is not
+holding_past : (ps : List Assigned) (b : ℕ) → listed ps ≡ true → 64 ≤ b → holding ps b ≡ 0
+holding_past [] b ok past = refl
+holding_past (p ∷ ps) b ok past =
+    let rest : listed ps ≡ true = grind (arith, nat_tests) in
+    let more = holding_past ps b rest past in
+    grind (arith, nat_tests)
 
--- what `release` leaves
-pub released : (ps qs : List Assigned) (i b : ℕ) → listed ps ≡ true → b < 64 → i < length ps → (pair_at ps i).bay ≡ b → qs ≡ remove ps i → (listed qs ≡ true) × (tabled qs ≡ set (tabled ps) b 0)
-released ps qs i b ok low within here e =
-    let d : Assigned = record { bay = 0; array = 0 } in (
-      ap listed e ∙ removed_listed ps i d ok within,
-      ap tabled e ∙ tabled_set ps (remove ps i) b 0 low (ap (holding (remove ps i)) (sym here) ∙ removed_same ps i d ok within) (λ k ne. removed_other ps i d k within (λ h. ne (sym here ∙ h))),
-    )
+holding_find : (ps : List Assigned) (b : ℕ) → option_map_or (λ p. p.array) (find (λ p. p.bay == b) ps) 0 ≡ holding ps b
+holding_find [] b = refl
+holding_find (p ∷ ps) b =
+    let more = holding_find ps b in
+    grind (arith, nat_tests)
+
+-- what is found at a bay
+pub found : (ps : List Assigned) (b : ℕ) → listed ps ≡ true → option_map_or (λ p. p.array) (find (λ p. p.bay == b) ps) 0 ≡ get_or (tabled ps) b 0
+found ps b ok =
+    ⊎_elim
+    (λ (low : b < 64). holding_find ps b ∙ sym (tabled_at ps b low))
+    (λ (past : 64 ≤ b). holding_find ps b ∙ holding_past ps b ok past ∙ sym (get_or_past (tabled ps) b 0 (omega (arith, tabled_length ps))))
+    (cases_lt b 64)
+
+-- what is left where a bay is emptied, with room for one more
+pub record Emptied (ps : List Assigned) (b : ℕ) : Type 0 where
+  pub ok : listed (others b ps) ≡ true
+  pub after : tabled (others b ps) ≡ set (tabled ps) b 0
+  pub room : length (others b ps) < 64
+
+pub emptied : (ps : List Assigned) (b : ℕ) → listed ps ≡ true → b < 64 → Emptied ps b
+emptied ps b ok low = record {
+  ok = others_listed ps b ok;
+  after = tabled_set ps (others b ps) b 0 low (others_same ps b) (others_other ps b);
+  room = room (others b ps) b (others_listed ps b ok) low (others_same ps b);
+}
+
+-- what is left where a bay is filled after that
+pub record Filled (ps : List Assigned) (b v : ℕ) : Type 0 where
+  pub ok : listed (others b ps ++ (record { bay = b; array = v } ∷ [])) ≡ true
+  pub after : tabled (others b ps ++ (record { bay = b; array = v } ∷ [])) ≡ set (tabled ps) b v
+
+pub filled : (ps : List Assigned) (b v : ℕ) → listed ps ≡ true → b < 64 → (v ≡ 0 → ⊥) → Filled ps b v
+filled ps b v ok low some =
+    let p : Assigned = record { bay = b; array = v } in
+    let left = others_listed ps b ok in
+    let none = others_same ps b in
+    record {
+      ok = push_listed (others b ps) p left low (omega arith) none;
+      after = tabled_set ps (others b ps ++ (p ∷ [])) b v low (push_same (others b ps) p left none)
+          (λ k ne. push_other (others b ps) p k ne ∙ others_other ps b k ne);
+    }
 
 pub tabled_first : tabled [] ≡ replicate 64 0
 unfolding tabled

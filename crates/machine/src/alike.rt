@@ -1,16 +1,14 @@
 // Machines of one rule answer alike.
-ghost use Rattle.std.specs.Prelude.{◌≡◌, true, [], IfOk, Decides};
-ghost use Rattle.machine.specs.contracts.list.ListCatalogueMachine.TheImpl.{ghosts as list};
-ghost use Rattle.machine.specs.contracts.table.TableCatalogueMachine.TheImpl.{ghosts as table};
+ghost use Rattle.std.specs.Prelude.{◌≡◌, ◌↔◌, [], IfOk, IsTrue};
 ghost use Rattle.machine.specs.Catalogues.{catalogue};
 ghost use Rattle.machine.specs.OneRules.{OneRule, AnswerAlike, Itself, Layered};
 ghost use Rattle.machine.specs.Onces.{once};
 ghost use Rattle.machine.specs.Rules.{run, answers};
 
+use crate::catalogue::TableCatalogue;
 use crate::list::ListCatalogue;
 use crate::once::Once;
 use crate::rule::Machine;
-use crate::table::TableCatalogue;
 use command::Command;
 use std::alloc::{AllocError, Global};
 
@@ -22,7 +20,7 @@ pub fn answer_alike<M: Machine, N: Machine>(
 ) -> bool
     ensures one { M.Machine.means one.new ≡ run M.Machine.rule (M.Machine.means one.old) commands.now }
     ensures other { N.Machine.means other.new ≡ run N.Machine.rule (N.Machine.means other.old) commands.now }
-    ensures told { Decides result (answers M.Machine.rule (M.Machine.means one.old) commands.now ≡ answers N.Machine.rule (N.Machine.means other.old) commands.now) }
+    ensures told { IsTrue result ↔ (answers M.Machine.rule (M.Machine.means one.old) commands.now ≡ answers N.Machine.rule (N.Machine.means other.old) commands.now) }
     ensures law { AnswerAlike M.Machine.rule N.Machine.rule }
     ensures itself { Itself M.Machine.rule }
     ensures layered { Layered M.Machine.rule N.Machine.rule }
@@ -42,7 +40,7 @@ pub fn once_alike<M: Machine + Drop, N: Machine + Drop>(
     other: N,
     commands: &[Command],
 ) -> Result<bool, AllocError>
-    ensures told { IfOk result (λ b. Decides b (answers (once M.Machine.rule) (M.Machine.means one, []) commands.now ≡ answers (once N.Machine.rule) (N.Machine.means other, []) commands.now)) }
+    ensures told { IfOk result (λ b. IsTrue b ↔ (answers (once M.Machine.rule) (M.Machine.means one, []) commands.now ≡ answers (once N.Machine.rule) (N.Machine.means other, []) commands.now)) }
 {
     let mut one = Once::new(heap, one)?;
     let mut other = Once::new(heap, other)?;
@@ -51,9 +49,9 @@ pub fn once_alike<M: Machine + Drop, N: Machine + Drop>(
 
 // The same of a new catalogue of each make: always true, since both follow the one rule `catalogue`.
 pub fn makes_alike(heap: Global, commands: &[Command]) -> Result<bool, AllocError>
-    ensures told { IfOk result (λ b. b ≡ true) }
-    ensures makes { OneRule table.rule list.rule }
-    ensures named { OneRule table.rule catalogue × OneRule list.rule catalogue }
+    ensures told { IfOk result IsTrue }
+    ensures makes { OneRule ⟦<TableCatalogue as Machine>⟧.rule ⟦<ListCatalogue as Machine>⟧.rule }
+    ensures named { OneRule ⟦<TableCatalogue as Machine>⟧.rule catalogue × OneRule ⟦<ListCatalogue as Machine>⟧.rule catalogue }
 {
     let mut table = TableCatalogue::new();
     let mut list = ListCatalogue::new(heap)?;

@@ -1,21 +1,46 @@
-// One bay of the drive catalogue, for both makes of it.
-ghost use Rattle.std.specs.Prelude.{◌≡◌};
-ghost use Rattle.machine.specs.Catalogues.{catalogued};
+// The drive catalogue, as a table by bay.
+ghost use Rattle.std.specs.Prelude.{◌≡◌, map};
+ghost use Rattle.machine.specs.Catalogues.{assigned, released, catalogue};
+ghost use Rattle.machine.specs.OneRules.{OneRule};
 
-use crate::operation::Operation;
-use crate::outcome::Outcome;
+use crate::cells::{Cell, Cells};
+use crate::rule::Machine;
 
-pub(crate) const BAYS: u32 = 64;
+pub(crate) const BAYS: usize = 64;
 
-// What a command makes of a bay: the outcome, and the array that the bay holds after.
-pub(crate) fn settle(operation: Operation, held: u32, amount: u32) -> (Outcome, u32)
-    ensures { result ≡ catalogued operation held amount }
-{
-    match operation {
-        Operation::Read => (Outcome::Done, held),
-        _ if amount == 0 => (Outcome::NoAmount, held),
-        Operation::Put if held == 0 => (Outcome::Done, amount),
-        Operation::Take if held == amount => (Outcome::Done, 0),
-        _ => (Outcome::Refused, held),
+// The array that a bay is assigned to, 0 for none.
+#[derive(Clone, Copy)]
+pub struct Array(pub(crate) u32);
+
+impl Cell for Array {
+    ghost number = { λ held. held.0 };
+
+    ghost puts = { assigned };
+
+    ghost takes = { released };
+
+    fn number(self) -> u32 {
+        self.0
+    }
+
+    fn put(self, amount: u32) -> Option<Array> {
+        (self.0 == 0).then_some(Array(amount))
+    }
+
+    fn take(self, amount: u32) -> Option<Array> {
+        (self.0 == amount).then_some(Array(0))
+    }
+}
+
+pub type TableCatalogue = Cells<Array, BAYS>;
+
+impl TableCatalogue {
+    pub fn new() -> TableCatalogue
+        ensures first { catalogue.First (map (λ held. held.0) result.cells) }
+        ensures named { OneRule ⟦<TableCatalogue as Machine>⟧.rule catalogue }
+    {
+        Cells {
+            cells: [Array(0); BAYS],
+        }
     }
 }

@@ -3,6 +3,7 @@
 
 mod alike;
 mod catalogue;
+mod cells;
 mod list;
 mod once;
 mod operation;
@@ -10,14 +11,14 @@ mod outcome;
 mod pool;
 mod rule;
 mod runs;
-mod table;
 
 pub use alike::{answer_alike, makes_alike, once_alike};
+pub use catalogue::{Array, TableCatalogue};
+pub use cells::{Cell, Cells};
 pub use list::ListCatalogue;
 pub use once::Once;
-pub use operation::Operation;
+pub use operation::{Operation, UnknownOperation};
 pub use outcome::Outcome;
-pub use pool::SparePool;
+pub use pool::{Count, SparePool};
 pub use rule::{Machine, Plain};
 pub use runs::{answer_all, run_all};
-pub use table::TableCatalogue;

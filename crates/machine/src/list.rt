@@ -1,11 +1,12 @@
-// The drive catalogue as a list of the bays that are assigned.
-ghost use Rattle.std.specs.Prelude.{◌≡◌, ◌<◌, ◌≤◌, true, IfOk, vec_capacity, MatchOption, slice_index, slice_set};
-ghost use Rattle.machine.specs.Catalogues.{catalogue, catalogued};
-ghost use Rattle.machine.specs.Cells.{cells_steady};
-ghost use Rattle.machine.specs.Listing.{listed, tabled, Stands};
-ghost use Rattle.std.proofs.Common.{rules};
+// The drive catalogue as a list of the bays that are assigned: another make than the table, so it shares `settle`, which is the rule, and
+// nothing of how bays are kept.
+ghost use Rattle.std.specs.Prelude.{◌≡◌, ◌<◌, ◌≤◌, true, IfOk, vec_capacity, slice_index, slice_set, find, ◌==◌};
+ghost use Rattle.machine.specs.Catalogues.{assigned, released, catalogue};
+ghost use Rattle.machine.specs.Cells.{settled, cells_steady, cells_low};
+ghost use Rattle.machine.specs.Listing.{listed, tabled};
 
-use crate::catalogue::{BAYS, settle};
+use crate::catalogue::{Array, BAYS};
+use crate::cells::{Cell, settle};
 use crate::operation::Operation;
 use crate::outcome::Outcome;
 use crate::rule::{Machine, Plain};
@@ -26,63 +27,38 @@ pub struct ListCatalogue {
     ghost ok: { listed pairs.items ≡ true },
 }
 
-// Where the bay stands in the list, if it is assigned.
-fn place(pairs: &[Assigned], bay: u32) -> Option<usize>
-    requires { bay < 64 }
-    ensures { MatchOption result (slice_index (tabled pairs.now) bay ≡ 0) (Stands pairs.now bay) }
-{
-    for (i, pair) in pairs.iter().enumerate() {
-        if pair.bay == bay {
-            return Some(i);
-        }
-    }
-    None
-}
-
-// The array that the bay holds, 0 for none.
-fn array_of(pairs: &[Assigned], bay: u32) -> u32
-    requires { bay < 64 }
-    ensures { result ≡ slice_index (tabled pairs.now) bay }
-{
-    match place(pairs, bay) {
-        Some(i) => pairs[i].array,
-        None => 0,
-    }
-}
-
-fn assign(pairs: &mut Vec<Assigned>, bay: u32, array: u32)
-    requires room { 64 ≤ vec_capacity pairs.old }
-    requires ok { listed pairs.old.items ≡ true }
-    requires low { bay < 64 }
-    requires some { 0 < array }
-    requires free { slice_index (tabled pairs.old.items) bay ≡ 0 }
-    ensures capacity { vec_capacity pairs.new ≡ vec_capacity pairs.old }
-    ensures ok { listed pairs.new.items ≡ true }
-    ensures after { tabled pairs.new.items ≡ slice_set (tabled pairs.old.items) bay array }
-{
-    pairs.push_reserved(Assigned { bay, array });
-}
-
-fn release(pairs: &mut Vec<Assigned>, bay: u32)
-    requires ok { listed pairs.old.items ≡ true }
-    requires low { bay < 64 }
-    requires held { 0 < slice_index (tabled pairs.old.items) bay }
-    ensures capacity { vec_capacity pairs.new ≡ vec_capacity pairs.old }
-    ensures ok { listed pairs.new.items ≡ true }
-    ensures after { tabled pairs.new.items ≡ slice_set (tabled pairs.old.items) bay 0 }
-{
-    if let Some(i) = place(pairs.as_slice(), bay) {
-        let _ = pairs.remove(i);
-    }
-}
-
 impl ListCatalogue {
     // Takes the room for every bay, so that no command wants memory later.
     pub fn new(heap: Global) -> Result<ListCatalogue, AllocError>
         ensures { IfOk result (λ m. catalogue.First (tabled m.pairs.items)) }
     {
-        let pairs = Vec::with_capacity(heap, BAYS as usize)?;
+        let pairs = Vec::with_capacity(heap, BAYS)?;
         Ok(ListCatalogue { pairs })
+    }
+
+    // The pair of a bay that is assigned.
+    fn find(&self, bay: u32) -> Option<Assigned>
+        ensures { result ≡ find (λ (pair : Assigned). pair.bay == bay) self.now.pairs.items }
+    {
+        self.pairs.iter().copied().find(|pair| pair.bay == bay)
+    }
+
+    // The array that a bay holds, 0 for none.
+    fn array(&self, bay: u32) -> u32
+        ensures { result ≡ slice_index (tabled self.now.pairs.items) bay }
+    {
+        self.find(bay).map_or(0, |pair| pair.array)
+    }
+
+    // Puts the array into a bay, or empties it with 0.
+    fn set(&mut self, bay: u32, array: u32)
+        requires { bay < 64 }
+        ensures { tabled self.new.pairs.items ≡ slice_set (tabled self.old.pairs.items) bay array }
+    {
+        self.pairs.retain(|pair| pair.bay != bay);
+        if array != 0 {
+            self.pairs.push_reserved(Assigned { bay, array });
+        }
     }
 }
 
@@ -91,34 +67,28 @@ impl Machine for ListCatalogue {
 
     ghost means = { λ s. tabled s.pairs.items };
 
-    ghost steady = { cells_steady 64 catalogued };
+    ghost steady = { cells_steady 64 (settled assigned released) };
 
     fn bays(&self) -> u32
         ensures { result ≡ catalogue.bays (tabled self.now.pairs.items) }
     {
-        BAYS
+        BAYS as u32
     }
 
     fn apply(&mut self, command: Command) -> (Outcome, u32)
         ensures after { tabled self.new.pairs.items ≡ catalogue.next (tabled self.old.pairs.items) command }
         ensures answer { result ≡ catalogue.answer (tabled self.old.pairs.items) command }
     {
-        let Some(operation) = Operation::served(command, BAYS) else {
+        let Some(operation) = Operation::served(command, BAYS as u32) else {
             return (Outcome::Unknown, 0);
         };
-        let held = array_of(self.pairs.as_slice(), command.bay);
-        let (outcome, after) = settle(operation, held, command.amount);
-        if after != held {
-            if after == 0 {
-                release(&mut self.pairs, command.bay);
-            } else {
-                assign(&mut self.pairs, command.bay, after);
-            }
-        }
+        let held = self.array(command.bay);
+        let (outcome, after) = settle(operation, Array(held), command.amount);
+        self.set(command.bay, after.number());
         (outcome, held)
     }
 }
 
 impl Plain for ListCatalogue {
-    ghost low = { Prim.search rules };
+    ghost low = { cells_low 64 assigned released };
 }

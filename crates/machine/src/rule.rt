@@ -23,7 +23,7 @@ pub trait Machine {
         ensures answer { result ≡ rule.answer (means self.old) command };
 }
 
-// A machine that leaves the outcomes of the layer `Once` to that layer.
+// A machine that leaves the outcomes of the layer `Once` to that layer. No law of `Machine`, since the layer is a machine too.
 pub trait Plain: Machine {
     ghost low: { Low Self.Machine.rule };
 }

@@ -27,6 +27,7 @@ pub fn answer_all<M: Machine>(
     ensures answers { MatchResult result (λ v. v.items ≡ answers M.rule (M.means machine.old) commands.now) (λ _. machine.new ≡ machine.old) }
 {
     let mut pairs = Vec::with_capacity(heap, commands.len())?;
+    // No `map` with `collect`: room is taken before the first command, so that none is applied where there is too little memory.
     for command in commands {
         pairs.push_reserved(machine.apply(*command));
     }

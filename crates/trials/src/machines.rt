@@ -184,7 +184,7 @@ fn try_one<M: Machine>(
         before,
     } = e;
     let (came, value) = machine.apply(numbered(number, e));
-    let came = u32::from(came.number());
+    let came = u32::from(u8::from(came));
     score.note(came == outcome && value == before);
     println!(rt;
         "  operation {operation} bay {bay} amount {amount}: expected ({outcome},{before}), came ({came},{value})"

@@ -1,10 +1,10 @@
-use Rattle.std.proofs.Common.{◌≡◌, Bool, List, Decides, refl, arith}
+use Rattle.std.proofs.Common.{◌≡◌, Bool, List, Decides, refl, ap, ◌∙◌, arith}
 use Rattle.std.specs.List.{IsAnyAnswer}
 use Rattle.std.proofs.lemmas.List.Elements.{contains_decides}
 use Rattle.std.proofs.lemmas.Bool.Decides.{same_from_decides, Decides-by_or, nat_tests}
 use Rattle.command.specs.declared.Identity.{Identity}
 use Rattle.machine.specs.Onces.{known, same}
-use Rattle.machine.proofs.once.layer.is_known.Goals as goal
+use Rattle.machine.proofs.once.Once.is_known.Goals as goal
 
 same_decides : (a b : Identity) → Decides (same a b) (a ≡ b)
 same_decides a b = grind (arith, nat_tests)
@@ -15,4 +15,4 @@ contains_known ids id r h =
     (Decides-by_or (λ k. same k id) (λ k. k ≡ id) (λ ks. known ks id) (λ k. same_decides k id) refl (λ _ _. refl) ids)
 
 pub returns : goal.returns
-returns c = contains_known c.args.kept.now c.args.identity c.contains.result c.contains.ensures.cases
+returns g c = contains_known _ c.args.identity _ c.contains.ensures.cases ∙ ap (λ ids. known ids c.args.identity) c.deref.ensures.value
