@@ -9,17 +9,17 @@ pub loop-place-preserved : goal.loop-place-preserved
 loop-place-preserved g c = (
   c.loop-place.invariant.0,
   λ p d.
-    let xs = c.args.items.now in
-    let i = c.loop-place.place in
-    elim c.else-place-start.branch [
-      | else-place-start-via-then-place-start+else-test w ↦
-          let more = first_more p xs i c.index-items-place.result (omega arith) c.index-items-place.is w.test.result (d _ _ w.test.ensures) in
-          let here : max c.args.start i ≡ i = omega arith in
-          let next : max c.args.start (i + 1) ≡ i + 1 = omega arith in
-          rw next (sym (rw w.if-test.false at more) ∙ rw here at (c.loop-place.invariant.1 p d))
-      | else-place-start-via-else-place-start w ↦
-          ap (λ k. position_from p k (drop k xs)) (omega arith)
-    ],
+      let xs = c.args.items.now in
+      let i = c.loop-place.place in
+      elim c.else-place-start.branch [
+        | else-place-start-via-then-place-start+else-test w ↦
+            let more = first_more p xs i c.index-items-place.result (omega arith) c.index-items-place.is w.test.result (d _ _ w.test.ensures) in
+            let here : max c.args.start i ≡ i = omega arith in
+            let next : max c.args.start (i + 1) ≡ i + 1 = omega arith in
+            rw next (sym (rw w.if-test.false at more) ∙ rw here at (c.loop-place.invariant.1 p d))
+        | else-place-start-via-else-place-start w ↦
+            ap (λ k. position_from p k (drop k xs)) (omega arith)
+      ],
 )
 
 pub returns-clause-value : goal.returns-clause-value
