@@ -29,7 +29,7 @@ use Rattle.card.specs.Settling.{settle}
 use Rattle.card.specs.Taking.{is_nothing, takeover_at, takeover}
 use Rattle.group.specs.Views.{log_named, stage_of, answer_of, answers_of, seats_of, report_of, reports_of}
 use Rattle.group.specs.Turns.{SeatedCard, TakesTurn, DeliveriesTurn}
-use Rattle.group.proofs.Beginning.{none_past}
+use Rattle.column.proofs.Cards.{same_everywhere}
 use Rattle.group.proofs.Counting.{puts_one}
 use Rattle.group.proofs.Placing.{number_named}
 use Rattle.group.proofs.Scanning.{scans_find}
@@ -144,10 +144,10 @@ module _ (f : ℕ) (r : Replica) (s : SeatedCard f r) (S : List column.Message) 
         once (takes_over b (reports_of (set (replicate 7 None) r.seat (Some own))) (seats_of (replicate 7 false)) rise.own
             (λ c. let z = committed_only e.state c in let y : is_committed e.state ≡ true = rw z in grind arith) rise.above
             (λ k. elim (puts_one report_of None (Some own) (replicate 7 None) r.seat (omega arith) k) [
-              | inl w ↦ inl (w ∙ ap report_of (none_past None 7 k))
+              | inl w ↦ inl (w ∙ ap report_of (same_everywhere 7 k None))
               | inr w ↦ inr (w.0, w.1 ∙ report_same e)
             ])
-            (λ c. none_past false 7 c)),
+            (λ c. same_everywhere 7 c false)),
       )
 
   pub takeovers : (log i : ℕ) (x : Replica × Option Message) → takeover r log i ≡ Ok x → TakesTurn f S r (log_named log) i x

@@ -45,7 +45,8 @@ use Rattle.card.specs.Delivering.{nothing, recommits, answers, hears, acknowledg
 use Rattle.group.specs.Choices.{Chosen, Chosen.as_accepted, Chosen.as_voted, Chosen.as_noop}
 use Rattle.group.specs.Settlements.{Low}
 use Rattle.group.specs.Standing.{Seated, StandingEntry, StandingTakeover, StandingMaybe, Standing, ValuedEntry, ValuedReport, Valued}
-use Rattle.group.proofs.Beginning.{seated, none_past}
+use Rattle.column.proofs.Cards.{same_everywhere}
+use Rattle.group.proofs.Beginning.{seated}
 use Rattle.group.proofs.Choosing.{reports_choose}
 use Rattle.group.proofs.Counting.{seated_more}
 use Rattle.group.proofs.Settling.{settled_low}
@@ -58,6 +59,11 @@ use Rattle.group.proofs.Placing.{logs_two, item_here, item_other, shaped}
 pub record Whole (n s : ℕ) (r : Replica) : Type 0 where
   pub stands : Standing n s r
   pub valued : Valued r
+
+-- what a call comes to leaves the card whole
+abbrev pub After : Replica → Step → Type 0
+After r (Ok x) = Whole r.n r.seat x.0
+After r (Err refused) = Unit {0}
 
 -- an entry that stands, and that has a value where it is not empty
 record WholeEntry (n : ℕ) (e : Entry) : Type 0 where
@@ -311,7 +317,7 @@ begun_stands n log i b seat own inside few low valued =
     false seat own inside few low valued
   where
     none : (c : ℕ) (x : Reported) → get_or (replicate 7 None) c None ≡ Some x → ⊥
-    none c x q = let z = none_past {X = Option Reported} None 7 c in grind arith
+    none c x q = let z = same_everywhere {X = Option Reported} 7 c None in grind arith
 
 -- what a message to the takeover u of the entry e leads to
 record BothStand (n : ℕ) (u : Takeover) (e : Entry) (x : Takeover × Entry × Progress) : Type 0 where
@@ -515,10 +521,6 @@ module _ (r : Replica) (few : r.n ≤ 7) (some : 2 ≤ majority_of r.n) (seat_s 
         | inr l ↦ rw l whole
       ]
 
-  abbrev pub Kept : Step → Type 0
-  Kept (Ok x) = Keeps x
-  Kept (Err refused) = Unit {0}
-
   unless_keeps : (x y : Replica × Option Message) (st : State) → Keeps x → Keeps y → Keeps (unless_committed st x y)
   unless_keeps x y Empty a b = a
   unless_keeps x y Answered a b = a
@@ -530,7 +532,7 @@ module _ (r : Replica) (few : r.n ≤ 7) (some : 2 ≤ majority_of r.n) (seat_s 
       write (committing e m.value m.dependency) (committing_stands r.n e whole_e m.value m.dependency valid.dependency valued) (λ z. absurd (valued z))
 
   commit_keeps : (m.value ≡ value.Nothing → ⊥) → (st : State)
-      → Kept (unless_committed st (Ok (with_entry r m.log m.entry (committing e m.value m.dependency), None))
+      → After r (unless_committed st (Ok (with_entry r m.log m.entry (committing e m.value m.dependency), None))
       (cond (same_value e.value m.value && eqb e.dependency m.dependency) (Ok (nothing r)) (Err DifferentCommit)))
   commit_keeps valued Empty = committed_now valued
   commit_keeps valued Answered = committed_now valued
@@ -571,7 +573,7 @@ module _ (r : Replica) (few : r.n ≤ 7) (some : 2 ≤ majority_of r.n) (seat_s 
       by report.Vote h = absurd (grind arith)
       by (report.Accepted b) h = absurd (grind arith)
 
-  kind_keeps : (k : Kind) → m.kind ≡ k → Kept (turn_by k r m e)
+  kind_keeps : (k : Kind) → m.kind ≡ k → After r (turn_by k r m e)
   kind_keeps FastAccept q = proposal_keeps (λ z. let h = value_fit FastAccept q z in grind arith) e.state refl
   kind_keeps FastAcceptOk q =
       answer_keeps (Vote e.dependency) (λ d q. let z : d ≡ e.dependency = grind arith in let l = whole_e.stands.dependency in omega arith) (λ d q. grind arith) e.state refl
@@ -585,7 +587,7 @@ module _ (r : Replica) (few : r.n ≤ 7) (some : 2 ≤ majority_of r.n) (seat_s 
   kind_keeps PrepareOk q = unless_keeps (reports r m e) (nothing r) e.state (report_keeps (reported_valued q)) whole
   kind_keeps Reject q = unless_keeps (raises r m e) (nothing r) e.state reject_keeps whole
 
-  pub delivery_keeps : Kept (turn r m)
+  pub delivery_keeps : After r (turn r m)
   delivery_keeps = kind_keeps m.kind refl
 
 -- the other calls leave the card standing too
@@ -593,15 +595,11 @@ module _ (r : Replica) (few : r.n ≤ 7) (seat_s : r.seat < r.n) (whole : Whole 
   abbrev stands : Standing r.n r.seat r
   stands = whole.stands
 
-  abbrev pub After : Step → Type 0
-  After (Ok x) = Whole r.n r.seat x.0
-  After (Err refused) = Unit {0}
-
-  pub proposing_keeps : (c : Command) → After (propose r c)
+  pub proposing_keeps : (c : Command) → After r (propose r c)
   proposing_keeps c = go (is_nameless c) (leb 2 r.seat) refl (leb 128 (highest_taken r r.seat)) refl
     where
       go : (a b : Bool) → leb 2 r.seat ≡ b → (d : Bool) → leb 128 (highest_taken r r.seat) ≡ d
-          → After (cond a (Err NoIdentity) (cond b (Err NotPilot) (cond d (Err LogFull)
+          → After r (cond a (Err NoIdentity) (cond b (Err NotPilot) (cond d (Err LogFull)
           (Ok (with_entry r r.seat (next_entry r) (proposal_of r c), Some (fast_accept_message r.seat r.seat (next_entry r) (proposal_of r c)))))))
       go true b pb d pd = tt
       go false true pb d pd = tt
@@ -621,11 +619,11 @@ module _ (r : Replica) (few : r.n ≤ 7) (seat_s : r.seat < r.n) (whole : Whole 
           (proposing_stands r.n e whole_e r.seat (value.Command c) (highest_held r (1 - r.seat)) seat_s top few (λ z. grind arith) (untaken e free).0)
           (λ z. absurd (grind arith))
 
-  pub settling_keeps : (log i : ℕ) → After (settle r log i)
+  pub settling_keeps : (log i : ℕ) → After r (settle r log i)
   settling_keeps log i = go (is_placed log i) refl (eqb log r.seat && counts_answers (entry_at r log i)) refl (can_settle r.n (entry_at r log i))
     where
       go : (a : Bool) → is_placed log i ≡ a → (b : Bool) → (eqb log r.seat && counts_answers (entry_at r log i)) ≡ b → (d : Bool)
-          → After (cond (not a) (Err NoSuchEntry) (cond (not b) (Err NotOpen) (cond (not d) (Err TooFewAnswers)
+          → After r (cond (not a) (Err NoSuchEntry) (cond (not b) (Err NotOpen) (cond (not d) (Err TooFewAnswers)
           (Ok (with_entry r log i (settling r.n r.seat (entry_at r log i)), announced r.seat log i (settling r.n r.seat (entry_at r log i)) Accepts)))))
       go false pa b pb d = tt
       go true pa false pb d = tt
@@ -636,12 +634,12 @@ module _ (r : Replica) (few : r.n ≤ 7) (seat_s : r.seat < r.n) (whole : Whole 
           written_stands r.n r.seat r whole log i p.0 p.1 p.2 (settling r.n r.seat (entry_at r log i))
           (settling_stands r.n (entry_at r log i) whole_e r.seat seat_s (λ z. let y = whole_e.valued z in grind arith)) (λ z. z)
 
-  pub takeover_keeps : (log i : ℕ) → After (takeover r log i)
+  pub takeover_keeps : (log i : ℕ) → After r (takeover r log i)
   takeover_keeps log i =
       go (is_placed log i) refl (is_committed (entry_at r log i).state) (is_nothing r log i) (next_ballot r.seat (entry_at r log i).promised)
     where
       go : (a : Bool) → is_placed log i ≡ a → (b d : Bool) (o : Option ℕ)
-          → After (cond (not a) (Err NoSuchEntry) (cond b (Err AlreadyCommitted) (cond d (Err NothingThere) (takeover_at r log i o))))
+          → After r (cond (not a) (Err NoSuchEntry) (cond b (Err AlreadyCommitted) (cond d (Err NothingThere) (takeover_at r log i o))))
       go false pa b d o = tt
       go true pa true d o = tt
       go true pa false true o = tt
