@@ -1,5 +1,5 @@
 -- Every call takes a sound group to a sound group.
-use Rattle.std.proofs.Common.{◌≡◌, ℕ, ◌<◌, ◌≤◌, Bool, true, false, cond, leb, List, [], ◌∷◌, ◌++◌, map, set, Some, None, Ok, Err, Option, sym, refl, ap, ◌∙◌, subst, inl, inr, append-nil, arith}
+use Rattle.std.proofs.Common.{◌≡◌, ℕ, ◌<◌, ◌≤◌, true, List, [], ◌∷◌, ◌++◌, map, set, Some, None, Ok, Err, Option, sym, refl, ap, ◌∙◌, subst, inl, inr, append-nil, arith}
 use mathlib.Core.Option.{some}
 use Rattle.std.proofs.lemmas.Bool.{cases_Bool}
 use Rattle.std.proofs.lemmas.Bool.Decides.{nat_tests}
@@ -22,12 +22,11 @@ use Rattle.column.specs.Moves.{Later, Later.now, Later.then}
 use Rattle.column.specs.Moves as moves
 use Rattle.entry.specs.Quorums.{majority_of}
 use Rattle.card.specs.declared.replica.Replica.{Replica}
-use Rattle.card.specs.declared.refusal.Refusal.TheVariants.{NoIdentity, NotPilot, LogFull}
 use Rattle.card.specs.Steps.{Step}
 use Rattle.card.specs.Messages.{fast_accept_message}
-use Rattle.card.specs.Tables.{with_entry, highest_taken}
+use Rattle.card.specs.Tables.{with_entry}
 use Rattle.card.specs.Checks.{is_mine, is_from_peer}
-use Rattle.card.specs.Proposing.{propose, next_entry, proposal_of, is_nameless}
+use Rattle.card.specs.Proposing.{propose, next_entry, proposal_of}
 use Rattle.card.specs.Settling.{settle}
 use Rattle.card.specs.Taking.{takeover}
 use Rattle.card.specs.Delivering.{turn, received}
@@ -36,9 +35,10 @@ use Rattle.group.specs.declared.calls.Call.TheVariants.{Propose, Deliver, Settle
 use Rattle.group.specs.Groups.{Group, seat_of, asked_by, carried, delivered, stepped, called_on_card, called, after}
 use Rattle.group.specs.Turns.{SeatedCard, TakesTurn}
 use Rattle.group.specs.Views.{number_of, log_named, noted, body_of}
+use Rattle.group.proofs.Passing.{proposed}
 use Rattle.group.proofs.Called.{deliveries_turn, proposals, settlings, takeovers}
 use Rattle.group.proofs.Keeping.{Whole, After, delivery_keeps, proposing_keeps, settling_keeps, takeover_keeps}
-use Rattle.group.proofs.Saying.{Told, settle_said, takeover_said, delivery_said}
+use Rattle.group.proofs.Saying.{Said, Told, settle_said, takeover_said, delivery_said}
 use Rattle.group.proofs.Grouping.{Sound, GoesOn, stays_put, advance, quietly, at_in, seated, whole}
 
 -- a place of a list that is set to what it holds
@@ -66,11 +66,13 @@ module _ (n f : ℕ) (fails : 0 < f) (few : n ≤ 7) (G : Group) (s : Sound n f 
 
     -- a call that proposes nothing and takes a turn, or is refused
     quiet_goes : (c : Call) → seat_of c ≡ seat → asked_by c ≡ None → (y : Step) (log i : ℕ)
-        → ((x : Replica × Option Message) → y ≡ Ok x → TakesTurn f S r (log_named log) i x) → After r y → Told r log i y
+        → ((x : Replica × Option Message) → y ≡ Ok x → TakesTurn f S r (log_named log) i x)
+        → ((x : Replica × Option Message) → y ≡ Ok x → Whole r.n r.seat x.0)
+        → ((x : Replica × Option Message) → y ≡ Ok x → Said r log i x.1)
         → Goes c y
-    quiet_goes c mine silent (Err refused) log i turns whole_y told = stays_put n f fails few G s
-    quiet_goes c mine silent (Ok x) log i turns whole_y told =
-        rw (mine, silent) (quietly n f fails few G s seat r here x (log_named log) log i refl (turns x refl) whole_y told)
+    quiet_goes c mine silent (Err refused) log i turns keeps says = stays_put n f fails few G s
+    quiet_goes c mine silent (Ok x) log i turns keeps says =
+        rw (mine, silent) (quietly n f fails few G s seat r here x (log_named log) log i refl (turns x refl) (keeps x refl) (says x refl))
 
     settle_goes : (log i : ℕ) → Goes (Settle seat log i) (settle r log i)
     settle_goes log i =
@@ -85,16 +87,6 @@ module _ (n f : ℕ) (fails : 0 < f) (few : n ≤ 7) (G : Group) (s : Sound n f 
     abbrev offered : Command → Replica × Option Message
     offered c = (with_entry r r.seat (next_entry r) (proposal_of r c), Some (fast_accept_message r.seat r.seat (next_entry r) (proposal_of r c)))
 
-    is_offered : (c : Command) (x : Replica × Option Message) → propose r c ≡ Ok x → offered c ≡ x
-    is_offered c x q = go (is_nameless c) (leb 2 r.seat) (leb 128 (highest_taken r r.seat)) q
-      where
-        go : (a b d : Bool) → ◌≡◌ {A = Step} (cond a (Err NoIdentity) (cond b (Err NotPilot) (cond d (Err LogFull) (Ok (offered c))))) (Ok x)
-            → offered c ≡ x
-        go true b d w = absurd (grind arith)
-        go false true d w = absurd (grind arith)
-        go false false true w = absurd (grind arith)
-        go false false false w = grind arith
-
     offers : (c b : Command) (d : ℕ) → body_of (offered c).1 ≡ some (fast_accept b d) → In b (G.proposed ++ (c ∷ []))
     offers c b d w = in_right b G.proposed (c ∷ []) (inl (grind arith))
 
@@ -104,9 +96,9 @@ module _ (n f : ℕ) (fails : 0 < f) (few : n ≤ 7) (G : Group) (s : Sound n f 
         by : (y : Step) → propose r c ≡ y → Goes (Propose seat c) y
         by (Err refused) q = stays_put n f fails few G s
         by (Ok x) q =
-            let z = is_offered c x q in
+            let z = (proposed r c x q).is in
             advance n f fails few G s seat r here x (G.proposed ++ (c ∷ [])) (log_named r.seat) r.seat (next_entry r) refl (proposals f r place_of S c x q)
-            (subst (After r) q (proposing_keeps r place_of.few place_of.seat whole_of c))
+            (proposing_keeps r place_of.few place_of.seat whole_of c x q)
             (subst (λ y. (m : Message) → y.1 ≡ Some m → (m.from ≡ r.seat) × (m.log ≡ r.seat) × (m.entry ≡ next_entry r)) z
             (λ m w. subst (λ k. (k.from ≡ r.seat) × (k.log ≡ r.seat) × (k.entry ≡ next_entry r)) (same_Some _ m w) (refl, refl, refl)))
             (subst (λ y. (b : Command) (d : ℕ) → body_of y.1 ≡ some (fast_accept b d) → In b (G.proposed ++ (c ∷ []))) z (offers c))
@@ -129,7 +121,8 @@ module _ (n f : ℕ) (fails : 0 < f) (few : n ≤ 7) (G : Group) (s : Sound n f 
       turn_goes mine peer =
           quiet_goes (Deliver seat k) refl refl (turn r m) m.log m.entry
           (deliveries_turn f r place_of S m sound_message (at_in noted G.sent k m sent) mine peer)
-          (delivery_keeps r place_of.few some_fail place_of.seat whole_of m sound_message from_seat) (delivery_said r m)
+          (λ x q. subst (After r) q (delivery_keeps r place_of.few some_fail place_of.seat whole_of m sound_message from_seat))
+          (λ x q. subst (Told r m.log m.entry) q (delivery_said r m))
         where
           from_seat : m.from < r.n
           from_seat = grind (arith, nat_tests)
