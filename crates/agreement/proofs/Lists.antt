@@ -13,15 +13,18 @@ module _ {A : Type 0} where
   in_right x [] r i = i
   in_right x (y ∷ l) r i = inr (in_right x l r i)
 
+  -- And what stands in the whole stands in a part.
+  pub in_parts : (x : A) (l r : List A) → In x (l ++ r) → In x l ⊎ In x r
+  in_parts x [] r i = inr i
+  in_parts x (y ∷ l) r (inl e) = inl (inl e)
+  in_parts x (y ∷ l) r (inr i) = elim (in_parts x l r i) [ inl j ↦ inl (inr j) | inr j ↦ inr j ]
+
   -- The last element stands in the list, and what stands there is it or stood there before.
   pub in_last : (x : A) (l : List A) → In x (l ++ (x ∷ []))
-  in_last x [] = inl refl
-  in_last x (y ∷ l) = inr (in_last x l)
+  in_last x l = in_right x l (x ∷ []) (inl refl)
 
   pub in_cases : (x y : A) (l : List A) → In x (l ++ (y ∷ [])) → In x l ⊎ (x ≡ y)
-  in_cases x y [] i = grind arith
-  in_cases x y (z ∷ l) (inl e) = inl (inl e)
-  in_cases x y (z ∷ l) (inr i) = let ih = in_cases x y l i in grind arith
+  in_cases x y l i = elim (in_parts x l (y ∷ []) i) [ inl j ↦ inl j | inr j ↦ elim j [ inl e ↦ inr e | inr none ↦ absurd none ] ]
 
   -- One more at the end, and a cut before y: y is the one more, or stands before it.
   pub last_cut : (l m : List A) (x y : A) (t : List A) → l ++ (x ∷ []) ≡ m ++ (y ∷ t) →

@@ -56,3 +56,14 @@ module _ (n f : ℕ) (owner : Log → ℕ) (holder : ℕ → ℕ) where
       let l = m u refl in
       leads_more n f owner holder h (add g i es h) (sub_add g i es h) s u
       (λ v j. unoffered g i es h plain u.log u.place u.ballot v l.past_first j) l
+
+  -- An act that adds no note and leaves the takeover alone keeps all, where its cell is sound and what it says is true.
+  pub quiet : {h : List Note} {g : Log} {i s : ℕ} {sent : List Message} {far : ℕ → Cell} {e : Cell} {t : Option Takeover} →
+      Here h g i s sent far e t → (x : Cell) → Fits n f owner holder g i s x h → (out : Option Body) → Says h s g i out → Keeps h g i s x t out []
+  quiet {h} {g} {i} {s} {t = t} at x fits out says = record {
+    run = at.run;
+    about = tt;
+    fits = fits;
+    leads = leads_on h g i s [] tt t at.leads;
+    says = says;
+  }

@@ -8,7 +8,7 @@ use Rattle.agreement.specs.Logs.{Log, Content.content, Value.command, other}
 use Rattle.agreement.specs.Histories.{Event.propose, Event.answer, Event.vote, Note, Note.note, May, Allowed.next}
 use Rattle.column.specs.Cells.{Stage.empty, Stage.answered, Answer, Answer.agrees, Answer.differs, Cell, Gave, answering, tallying, Takeover, Body.fast_accept, Body.fast_ok, Body.fast_reply, Message, Message.message, Puts}
 use Rattle.column.specs.Moves.{Highest, Unblocked}
-use Rattle.column.proofs.Acts.{Here, Keeps, leads_on}
+use Rattle.column.proofs.Acts.{Here, Keeps, leads_on, quiet}
 
 module _ (n f : ℕ) (owner : Log → ℕ) (holder : ℕ → ℕ) {h : List Note} {g : Log} {i s : ℕ} {sent : List Message} {far : ℕ → Cell} {e : Cell}
     {t : Option Takeover} (at : Here n f owner holder h g i s sent far e t) where
@@ -86,43 +86,15 @@ module _ (n f : ℕ) (owner : Log → ℕ) (holder : ℕ → ℕ) {h : List Note
       }
 
   pub repeats_vote_keeps : e.stage ≡ answered → e.voted ≡ true → Keeps n f owner holder h g i s e t (some fast_ok) []
-  repeats_vote_keeps p q = record {
-    run = at.run;
-    about = tt;
-    fits = at.fit;
-    leads = leads_on n f owner holder h g i s [] tt t at.leads;
-    says = at.fit.vote_kept.0 q;
-  }
+  repeats_vote_keeps p q = quiet n f owner holder at e at.fit (some fast_ok) (at.fit.vote_kept.0 q)
 
   pub repeats_reply_keeps : e.stage ≡ answered → e.voted ≡ false → Keeps n f owner holder h g i s e t (some (fast_reply e.given)) []
-  repeats_reply_keeps p q = record {
-    run = at.run;
-    about = tt;
-    fits = at.fit;
-    leads = leads_on n f owner holder h g i s [] tt t at.leads;
-    says = (at.fit.standing p).1;
-  }
+  repeats_reply_keeps p q = quiet n f owner holder at e at.fit (some (fast_reply e.given)) (at.fit.standing p).1
 
   pub counts_vote_keeps : (c : ℕ) (A : ℕ → Answer) → In (message c g i fast_ok) sent → Puts e.answers c agrees A →
       Keeps n f owner holder h g i s (tallying A e) t none []
-  counts_vote_keeps c A m puts =
-      let heard = at.said c fast_ok m in
-      record {
-        run = at.run;
-        about = tt;
-        fits = let fit = at.fit in grind arith;
-        leads = leads_on n f owner holder h g i s [] tt t at.leads;
-        says = tt;
-      }
+  counts_vote_keeps c A m puts = let heard = at.said c fast_ok m in quiet n f owner holder at (tallying A e) (let fit = at.fit in grind arith) none tt
 
   pub counts_reply_keeps : (c x : ℕ) (A : ℕ → Answer) → In (message c g i (fast_reply x)) sent → Puts e.answers c (differs x) A →
       Keeps n f owner holder h g i s (tallying A e) t none []
-  counts_reply_keeps c x A m puts =
-      let heard = at.said c (fast_reply x) m in
-      record {
-        run = at.run;
-        about = tt;
-        fits = let fit = at.fit in grind arith;
-        leads = leads_on n f owner holder h g i s [] tt t at.leads;
-        says = tt;
-      }
+  counts_reply_keeps c x A m puts = let heard = at.said c (fast_reply x) m in quiet n f owner holder at (tallying A e) (let fit = at.fit in grind arith) none tt

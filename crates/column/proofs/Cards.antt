@@ -1,26 +1,18 @@
 -- Calls on a list of cards are moves of the group.
-use Rattle.std.proofs.Common.{◌≡◌, ℕ, ◌<◌, List, length, get_or, set, replicate, refl, ap, ◌∙◌, inl, inr, arith, length-set}
+use Rattle.std.proofs.Common.{◌≡◌, ℕ, length, get_or, replicate, refl, ap, ◌∙◌, inl, inr, arith, length-set}
 use mathlib.Core.Option.{Option}
 use lib.ListN.{length-replicate, get_or-replicate}
 use Rattle.std.proofs.lemmas.List.{get_or-set_same, get_or-set_other, get_or_past}
 use Rattle.std.proofs.lemmas.Bool.{cases_eq, cases_lt}
 use Rattle.agreement.specs.Logs.{Log}
-use Rattle.column.specs.Cells.{Cell, Takeover, Puts}
+use Rattle.column.specs.Cells.{Cell, Takeover}
 use Rattle.column.specs.Moves.{Move, Later, Later.now, Later.then}
 use Rattle.column.specs.Cards.{Board, view, new_board, Call, Calls, Calls.no_call, Calls.one_more, CallsMoveLaw, Plain, plain, CardsSafe}
 use Rattle.column.proofs.Safe.{group_safe}
 
--- New cards are all alike, also past the last.
-get_d_all : {X : Type 0} (n i : ℕ) (x : X) → get_or (replicate n x) i x ≡ x
-get_d_all n i x = elim (cases_lt i n) [ inl l ↦ get_or-replicate n i x x l | inr l ↦ get_or_past (replicate n x) i x (rw (length-replicate n x) l) ]
-
--- A table that is read off a list, with one place of the list set.
-pub puts_set : {X Y : Type 0} (v : Y → X) (ys : List Y) (k : ℕ) (y d : Y) → k < length ys →
-    Puts (λ c. v (get_or ys c d)) k (v y) (λ c. v (get_or (set ys k y) c d))
-puts_set v ys k y d l c = elim (cases_eq c k) [
-  | inl p ↦ inr (p, rw p (ap v (get_or-set_same ys k y d l)))
-  | inr p ↦ inl (ap v (get_or-set_other ys k c y d p))
-]
+-- A list of one item repeated, read anywhere, also past its end.
+pub same_everywhere : {X : Type 0} (n i : ℕ) (x : X) → get_or (replicate n x) i x ≡ x
+same_everywhere n i x = elim (cases_lt i n) [ inl l ↦ get_or-replicate n i x x l | inr l ↦ get_or_past (replicate n x) i x (rw (length-replicate n x) l) ]
 
 module _ {Card : Type 0} (made : Card) (cell_of : Card → Log → ℕ → Cell) (takeover_of : Card → Option Takeover) (n f : ℕ)
     (owner : Log → ℕ) (holder : ℕ → ℕ) where
@@ -72,8 +64,8 @@ calls_move_law Card made cell_of takeover_of n f owner holder new none_yet B C b
   record {
     from = view made cell_of takeover_of (new_board made cell_of takeover_of n);
     fresh = record {
-      cells = λ g i s. rw (get_d_all n s made) (new g i);
-      takeovers = λ s. rw (get_d_all n s made) none_yet;
+      cells = λ g i s. rw (same_everywhere n s made) (new g i);
+      takeovers = λ s. rw (same_everywhere n s made) none_yet;
       sent = refl;
       history = refl;
     };

@@ -7,7 +7,7 @@ use Rattle.agreement.specs.Logs.{Log, Content}
 use Rattle.agreement.specs.Histories.{Event.accept, Event.fast_commit, Note, Note.note, decided_in, Allowed.next}
 use Rattle.column.specs.Cells.{Stage.answered, Stage.accepted, Stage.committed, Answer, Answer.silent, Answer.agrees, Answer.differs, Cell, admitting, accepting, committing, agreed, Takeover, Body.accept_at, Body.accept_ok, Body.committed_as, Body.reject, Message, Message.message, Puts}
 use Rattle.column.proofs.Invariant.{Fits}
-use Rattle.column.proofs.Acts.{Here, Keeps, leads_on}
+use Rattle.column.proofs.Acts.{Here, Keeps, leads_on, quiet}
 
 module _ (n f : ℕ) (owner : Log → ℕ) (holder : ℕ → ℕ) {h : List Note} {g : Log} {i s : ℕ} {sent : List Message} {far : ℕ → Cell} {e : Cell}
     {t : Option Takeover} (at : Here n f owner holder h g i s sent far e t) where
@@ -19,23 +19,11 @@ module _ (n f : ℕ) (owner : Log → ℕ) (holder : ℕ → ℕ) {h : List Note
   fits_fast d = let fit = at.fit in grind arith
 
   same_final : (v : Content) → decided_in n f owner h g i v → Keeps n f owner holder h g i s (committing v e) t none []
-  same_final v d = record {
-    run = at.run;
-    about = tt;
-    fits = fits_final v d;
-    leads = leads_on n f owner holder h g i s [] tt t at.leads;
-    says = tt;
-  }
+  same_final v d = quiet n f owner holder at (committing v e) (fits_final v d) none tt
 
   pub said_final : (v : Content) → decided_in n f owner h g i v →
       Keeps n f owner holder h g i s (committing v e) t (some (committed_as v)) []
-  said_final v d = record {
-    run = at.run;
-    about = tt;
-    fits = fits_final v d;
-    leads = leads_on n f owner holder h g i s [] tt t at.leads;
-    says = d;
-  }
+  said_final v d = quiet n f owner holder at (committing v e) (fits_final v d) (some (committed_as v)) d
 
   pub commits_fast_keeps : s ≡ owner g → e.stage ≡ answered → e.promised ≡ 0 → 2 * f ≤ count (λ c. agreed (e.answers c)) n →
       Keeps n f owner holder h g i s (committing e.value e) t (some (committed_as e.value)) (fast_commit ∷ [])
@@ -74,15 +62,7 @@ module _ (n f : ℕ) (owner : Log → ℕ) (holder : ℕ → ℕ) {h : List Note
 
   pub counts_accept_keeps : (c : ℕ) (B : Seats) → In (message c g i (accept_ok 0)) sent → Puts e.accepts c true B →
       Keeps n f owner holder h g i s (admitting B e) t none []
-  counts_accept_keeps c B m puts =
-      let heard = at.said c (accept_ok 0) m in
-      record {
-        run = at.run;
-        about = tt;
-        fits = let fit = at.fit in grind arith;
-        leads = leads_on n f owner holder h g i s [] tt t at.leads;
-        says = tt;
-      }
+  counts_accept_keeps c B m puts = let heard = at.said c (accept_ok 0) m in quiet n f owner holder at (admitting B e) (let fit = at.fit in grind arith) none tt
 
   pub commits_first_keeps : e.stage ≡ accepted → e.promised ≡ 0 → f < count e.accepts n →
       Keeps n f owner holder h g i s (committing e.value e) t (some (committed_as e.value)) []
@@ -102,31 +82,13 @@ module _ (n f : ℕ) (owner : Log → ℕ) (holder : ℕ → ℕ) {h : List Note
   learns_keeps p v m = same_final v (at.said p (committed_as v) m)
 
   pub tells_commit_keeps : e.stage ≡ committed → Keeps n f owner holder h g i s e t (some (committed_as e.value)) []
-  tells_commit_keeps p = record {
-    run = at.run;
-    about = tt;
-    fits = at.fit;
-    leads = leads_on n f owner holder h g i s [] tt t at.leads;
-    says = at.fit.final p;
-  }
+  tells_commit_keeps p = quiet n f owner holder at e at.fit (some (committed_as e.value)) (at.fit.final p)
 
   pub tells_promise_keeps : Keeps n f owner holder h g i s e t (some (reject e.promised)) []
-  tells_promise_keeps = record {
-    run = at.run;
-    about = tt;
-    fits = at.fit;
-    leads = leads_on n f owner holder h g i s [] tt t at.leads;
-    says = tt;
-  }
+  tells_promise_keeps = quiet n f owner holder at e at.fit (some (reject e.promised)) tt
 
   pub rests_keeps : Keeps n f owner holder h g i s e t none []
-  rests_keeps = record {
-    run = at.run;
-    about = tt;
-    fits = at.fit;
-    leads = leads_on n f owner holder h g i s [] tt t at.leads;
-    says = tt;
-  }
+  rests_keeps = quiet n f owner holder at e at.fit none tt
 
   pub forgets_keeps : Keeps n f owner holder h g i s e none none []
   forgets_keeps = record { run = at.run; about = tt; fits = at.fit; leads = tt; says = tt }

@@ -4,11 +4,11 @@ use mathlib.Core.Option.{Option, some, none}
 use Rattle.agreement.specs.Quorums.{Seats}
 use Rattle.agreement.specs.Lists.{In}
 use Rattle.agreement.specs.Logs.{Log}
-use Rattle.agreement.specs.Histories.{Event, Event.propose, Event.vote, Event.accept, Event.report, Note, Note.note, MayReport, Latest, Allowed.next}
+use Rattle.agreement.specs.Histories.{Event, Event.propose, Event.vote, Event.report, Note, Note.note, MayReport, Latest, Allowed.next}
 use Rattle.column.specs.Cells.{Stage, Stage.empty, Stage.answered, Stage.accepted, Stage.committed, Cell, promising, Report, Report.unheard, Report.bare, Report.vouched, past_of, vote_of, report_at_stage, report_of_cell, Takeover, Body.prepare, Body.prepare_ok, Message, Puts}
 use Rattle.column.proofs.Invariant.{Fits, Told}
 use Rattle.column.proofs.Frame.{Sub}
-use Rattle.column.proofs.Acts.{Here, Keeps, leads_on}
+use Rattle.column.proofs.Acts.{Here, Keeps, leads_on, quiet}
 
 module _ (n f : ℕ) (owner : Log → ℕ) (holder : ℕ → ℕ) {h : List Note} {g : Log} {i s : ℕ} {sent : List Message} {far : ℕ → Cell} {e : Cell}
     {t : Option Takeover} (at : Here n f owner holder h g i s sent far e t) where
@@ -75,13 +75,7 @@ module _ (n f : ℕ) (owner : Log → ℕ) (holder : ℕ → ℕ) {h : List Note
   }
 
   pub raises_keeps : (b : ℕ) → (e.stage ≡ committed → ⊥) → e.promised < b → Keeps n f owner holder h g i s (promising b e) t none []
-  raises_keeps b open_yet l = record {
-    run = at.run;
-    about = tt;
-    fits = let fit = at.fit in grind arith;
-    leads = leads_on n f owner holder h g i s [] tt t at.leads;
-    says = tt;
-  }
+  raises_keeps b open_yet l = quiet n f owner holder at (promising b e) (let fit = at.fit in grind arith) none tt
 
   pub takes_over_keeps : (b : ℕ) (R : ℕ → Report) (B : Seats) → holder b ≡ s → (e.stage ≡ committed → ⊥) → e.promised < b →
       Puts (λ c. unheard) s (report_of_cell e) R → ((c : ℕ) → B c ≡ false) →

@@ -42,6 +42,9 @@ module _ (C D : Committed) (more : (g : Log) (k : ℕ) (x : Content) → C g k x
   walk_more (run_pilot {a = a} {b = b} {c = c} w r) = run_pilot (walk_more w) (ready_one_more a b c r)
   walk_more (run_copilot {a = a} {b = b} {c = c} w r) = run_copilot (walk_more w) (ready_two_more a b c r)
 
+same_step : {g g' : Log} {i i' : ℕ} {c c' : Command} → step g i c ≡ step g' i' c' → (g ≡ g') × (i ≡ i') × (c ≡ c')
+same_step p = (cc, cc, cc)
+
 -- Each step of a walk is a command that is committed.
 walked : (C : Committed) {a b : ℕ} {l : List Step} → Walk C a b l → (g : Log) (i : ℕ) (c : Command) → In (step g i c) l → (d : ℕ) × C g i (content (command c) d)
 walked C start g i c j = absurd j
@@ -53,18 +56,12 @@ walked C (run_pilot {a = a} {c = c'} {l = l} w r) g i c j = elim (in_cases (step
       let (p0, p1, p2) = same_step p in
       (r.dep, rw (p0, p1, p2) r.held)
 ]
-  where
-    same_step : {g g' : Log} {i i' : ℕ} {c c' : Command} → step g i c ≡ step g' i' c' → (g ≡ g') × (i ≡ i') × (c ≡ c')
-    same_step p = (cc, cc, cc)
 walked C (run_copilot {b = b} {c = c'} {l = l} w r) g i c j = elim (in_cases (step g i c) (step copilot (suc b) c') l j) [
   | inl k ↦ walked C w g i c k
   | inr p ↦
       let (p0, p1, p2) = same_step p in
       (r.dep, rw (p0, p1, p2) r.held)
 ]
-  where
-    same_step : {g g' : Log} {i i' : ℕ} {c c' : Command} → step g i c ≡ step g' i' c' → (g ≡ g') × (i ≡ i') × (c ≡ c')
-    same_step p = (cc, cc, cc)
 
 module _ (n f : ℕ) (owner : Log → ℕ) (holder : ℕ → ℕ) where
   -- No act takes a commit back.

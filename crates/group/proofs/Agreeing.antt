@@ -3,6 +3,7 @@ use Rattle.std.proofs.Common.{◌≡◌, ℕ, zero, suc, ◌+◌, ◌-◌, ◌*�
 use Rattle.std.proofs.lemmas.List.{get_or_past}
 use Rattle.std.proofs.lemmas.Bool.{cases_Bool, cases_eq}
 use Rattle.std.proofs.lemmas.Bool.Decides.{nat_tests}
+use Rattle.std.proofs.lemmas.Option.{slice_get_within}
 use Rattle.std.specs.List.{slice_get}
 use Rattle.agreement.specs.Logs.{Log, Log.pilot, Log.copilot}
 use Rattle.agreement.specs.Histories.{Note}
@@ -24,7 +25,7 @@ use Rattle.group.specs.Scans.{Shaped}
 use Rattle.group.specs.Standing.{Valued}
 use Rattle.group.specs.Views.{number_of, log_named, cell_of, cell_on, stage_of, content_of, noted}
 use Rattle.group.proofs.Beginning.{cards_begin, empty_new}
-use Rattle.group.proofs.Grouping.{view, takeover_on, Sound, at_inside}
+use Rattle.group.proofs.Grouping.{view, takeover_on, Sound}
 use Rattle.group.proofs.Calling.{calls_go}
 
 -- how many cards a group may lose
@@ -49,7 +50,7 @@ module _ (n f : ℕ) (is : n ≡ 2 * f + 1) (fails : 0 < f) (few : n ≤ 7) (G :
     where
       by : (o : Option Replica) → slice_get G.cards s ≡ o → slice_get G.cards s ≡ None
       by None q = q
-      by (Some r) q = absurd (out (let l = at_inside G.cards s r q in omega (arith, new.size)))
+      by (Some r) q = absurd (out (let l = slice_get_within G.cards s r q in omega (arith, new.size)))
 
   fresh : Fresh (view G [])
   fresh =
@@ -101,7 +102,7 @@ kept G h g s (suc k) v d low w =
 held_valued : (n f : ℕ) (G : Group) → Sound n f G → (s log i : ℕ) (v : Value) (d : ℕ) → log ≤ 1 → 1 ≤ i → Holds G s log i v d
     → v ≡ value.Nothing → ⊥
 held_valued n f G sound s log i v d l low w z =
-    let inside = at_inside G.cards s w.card w.seated in
+    let inside = slice_get_within G.cards s w.card w.seated in
     let c = sound.cards s (omega (arith, sound.count_is)) in
     let same : c.card ≡ w.card = let a = c.here in let b = w.seated in grind arith in
     let shape : Shaped w.card = subst Shaped same c.seated.stands.shape in
@@ -130,10 +131,10 @@ named (suc (suc k)) l = absurd (omega arith)
 
 module _ (n f : ℕ) (G H : Group) (s : Sound n f G) (t : Sound n f H) (safe : Safe n (view G s.history) (view H t.history)) where
   inside_now : (c log i : ℕ) (v : Value) (d : ℕ) → Holds G c log i v d → c < n
-  inside_now c log i v d w = let l = at_inside G.cards c w.card w.seated in omega (arith, s.count_is)
+  inside_now c log i v d w = let l = slice_get_within G.cards c w.card w.seated in omega (arith, s.count_is)
 
   inside_later : (c log i : ℕ) (v : Value) (d : ℕ) → Holds H c log i v d → c < n
-  inside_later c log i v d w = let l = at_inside H.cards c w.card w.seated in omega (arith, t.count_is)
+  inside_later c log i v d w = let l = slice_get_within H.cards c w.card w.seated in omega (arith, t.count_is)
 
   agree : Agree G H
   agree =

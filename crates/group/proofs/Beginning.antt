@@ -3,6 +3,7 @@ use Rattle.std.proofs.Common.{◌≡◌, None, Option, ℕ, zero, suc, ◌≤◌
 use lib.ListN.{length-replicate, get_or-replicate}
 use Rattle.agreement.specs.Logs.{Log, Log.pilot, Log.copilot}
 use Rattle.column.specs.Cells.{New}
+use Rattle.column.proofs.Cards.{same_everywhere}
 use Rattle.entry.specs.declared.entry.Entry.{Entry}
 use Rattle.entry.specs.declared.answers.Answer.{Answer}
 use Rattle.entry.specs.Entries.{empty}
@@ -12,22 +13,17 @@ use Rattle.group.specs.Views.{answer_of, cell_of, cell_at}
 use Rattle.group.specs.Standing.{Seated, StandingEntry}
 use Rattle.group.specs.Places.{CardsBegin}
 
-pub none_past : {X : Type 0} (x : X) (n c : ℕ) → get_or (replicate n x) c x ≡ x
-none_past x zero c = refl
-none_past x (suc n) zero = refl
-none_past x (suc n) (suc c) = none_past x n c
-
 pub seated : {X : Type 0} (n : ℕ) (x : X) → Seated n x (replicate 7 x)
-seated n x = record { seven = refl; group = λ c h. none_past x 7 c }
+seated n x = record { seven = refl; group = λ c h. same_everywhere 7 c x }
 
 empty_stands : (n : ℕ) → StandingEntry n empty
 empty_stands n =
     record {
       answers = seated n None;
       accepts = seated n false;
-      low = λ d g. absurd (let e = none_past {X = Option Answer} None 7 g.0 in grind arith);
+      low = λ d g. absurd (let e = same_everywhere {X = Option Answer} 7 g.0 None in grind arith);
       dependency = omega arith;
-      untallied = λ e c. none_past None 7 c;
+      untallied = λ e c. same_everywhere 7 c None;
       bare = λ e. refl;
       votes = λ c d o e. absurd (grind arith);
     }
@@ -44,8 +40,8 @@ empty_new =
       bare = refl;
       unpromised = refl;
       unvoted = refl;
-      unanswered = λ c. ap answer_of (none_past None 7 c);
-      unaccepted = λ c. none_past false 7 c;
+      unanswered = λ c. ap answer_of (same_everywhere 7 c None);
+      unaccepted = λ c. same_everywhere 7 c false;
     }
 
 absent_new : New (cell_of absent)

@@ -1,5 +1,5 @@
 -- Each call of a card is a turn at one entry.
-use Rattle.std.proofs.Common.{◌≡◌, ℕ, ◌-◌, ◌<◌, ◌≤◌, Bool, true, false, cond, not, ◌&&◌, ◌||◌, eqb, ltb, leb, List, set, replicate, Some, None, Ok, Err, Option, sym, refl, ap, ◌∙◌, subst, inl, inr, arith}
+use Rattle.std.proofs.Common.{◌≡◌, ℕ, ◌-◌, ◌<◌, ◌≤◌, Bool, true, false, ◌||◌, eqb, ltb, List, set, replicate, Some, None, Ok, Option, sym, refl, ap, ◌∙◌, subst, inl, inr, arith}
 use mathlib.Core.Option.{some}
 use Rattle.std.proofs.lemmas.Bool.{cases_Bool, and_parts, eqb-true}
 use Rattle.std.proofs.lemmas.Bool.Decides.{nat_tests}
@@ -10,27 +10,25 @@ use Rattle.column.specs.Cells as column
 use Rattle.column.specs.Moves.{Act.proposes, Act.takes_over, Act.rests, Turn.once}
 use Rattle.entry.specs.declared.answers.Answer.TheVariants.{Vote}
 use Rattle.entry.specs.declared.entry.Entry.{Entry}
-use Rattle.entry.specs.declared.entry.Progress.TheVariants.{Accepts}
 use Rattle.entry.specs.declared.entry.State.{State}
 use Rattle.entry.specs.declared.entry.State.TheVariants.{Empty, Answered, Accepted, Committed}
 use Rattle.entry.specs.declared.reports.Reported.{Reported}
 use Rattle.entry.specs.Ballots.{next_ballot}
 use Rattle.entry.specs.Entries.{is_held, is_committed, is_taken, promising}
 use Rattle.entry.specs.Entries as entries
-use Rattle.entry.specs.Owners.{is_open, counts_answers, can_settle, settling}
+use Rattle.entry.specs.Owners.{is_open, counts_answers}
 use Rattle.entry.specs.Takeovers.{begun}
-use Rattle.card.specs.declared.refusal.Refusal.TheVariants.{NoIdentity, NotPilot, LogFull, NoSuchEntry, NotOpen, TooFewAnswers, AlreadyCommitted, NothingThere}
 use Rattle.card.specs.declared.replica.Replica.{Replica}
-use Rattle.card.specs.Tables.{is_placed, entry_at, with_entry, with_takeover, highest_held, highest_taken}
-use Rattle.card.specs.Messages.{fast_accept_message, announced, prepare as asks_all}
-use Rattle.card.specs.Steps.{Step}
-use Rattle.card.specs.Proposing.{is_nameless, next_entry, proposal_of, propose}
+use Rattle.card.specs.Tables.{entry_at, with_entry, with_takeover, highest_held, highest_taken}
+use Rattle.card.specs.Messages.{fast_accept_message, prepare as asks_all}
+use Rattle.card.specs.Proposing.{next_entry, proposal_of, propose}
 use Rattle.card.specs.Settling.{settle}
-use Rattle.card.specs.Taking.{is_nothing, takeover_at, takeover}
+use Rattle.card.specs.Taking.{takeover}
 use Rattle.group.specs.Views.{log_named, stage_of, answer_of, answers_of, seats_of, report_of, reports_of}
 use Rattle.group.specs.Turns.{SeatedCard, TakesTurn, DeliveriesTurn}
-use Rattle.group.proofs.Beginning.{none_past}
+use Rattle.column.proofs.Cards.{same_everywhere}
 use Rattle.group.proofs.Counting.{puts_one}
+use Rattle.group.proofs.Passing as passing
 use Rattle.group.proofs.Placing.{number_named}
 use Rattle.group.proofs.Scanning.{scans_find}
 use Rattle.group.proofs.Turning.{writes, writes_both, far_highest, committed_only, report_same}
@@ -60,9 +58,6 @@ untaken e t = (by e.state (left (is_held e.state) t), zero_promise)
     zero_promise : e.promised ≡ 0
     zero_promise = grind (arith, nat_tests)
 
-pub placed_parts : (log i : ℕ) → is_placed log i ≡ true → (log ≤ 1) × (1 ≤ i) × (i ≤ 128)
-placed_parts log i p = (grind (arith, nat_tests), grind (arith, nat_tests), grind (arith, nat_tests))
-
 module _ (f : ℕ) (r : Replica) (s : SeatedCard f r) (S : List column.Message) where
   proposed : (c : Command) → (r.seat ≤ 1) → highest_taken r r.seat < 128
       → TakesTurn f S r (log_named r.seat) (next_entry r)
@@ -87,46 +82,22 @@ module _ (f : ℕ) (r : Replica) (s : SeatedCard f r) (S : List column.Message) 
             (puts_one answer_of None (Some (Vote d)) e.tally.answers r.seat (omega (arith, stands_e.answers.seven)))),
       )
 
-  -- what an answer `Ok` says
-  same_ok : (P : Replica × Option Message → Type 0) (x y : Replica × Option Message) → ◌≡◌ {A = Step} (Ok x) (Ok y) → P x → P y
-  same_ok P x y q p = subst P (grind arith) p
-
   pub proposals : (c : Command) (x : Replica × Option Message) → propose r c ≡ Ok x → TakesTurn f S r (log_named r.seat) (next_entry r) x
-  proposals c x q = go (is_nameless c) (leb 2 r.seat) refl (leb 128 (highest_taken r r.seat)) refl q
-    where
-      go : (a b : Bool) → leb 2 r.seat ≡ b → (d : Bool) → leb 128 (highest_taken r r.seat) ≡ d
-          → ◌≡◌ {A = Step} (cond a (Err NoIdentity) (cond b (Err NotPilot) (cond d (Err LogFull)
-          (Ok (with_entry r r.seat (next_entry r) (proposal_of r c), Some (fast_accept_message r.seat r.seat (next_entry r) (proposal_of r c))))))) (Ok x)
-          → TakesTurn f S r (log_named r.seat) (next_entry r) x
-      go true b pb d pd w = absurd (grind arith)
-      go false true pb d pd w = absurd (grind arith)
-      go false false pb true pd w = absurd (grind arith)
-      go false false pb false pd w =
-          same_ok (λ x. TakesTurn f S r (log_named r.seat) (next_entry r) x) _ x w (proposed c (grind (arith, nat_tests)) (grind (arith, nat_tests)))
+  proposals c x q = let w = passing.proposed r c x q in subst (TakesTurn f S r (log_named r.seat) (next_entry r)) w.is (proposed c w.low w.room)
 
   pub settlings : (log i : ℕ) (x : Replica × Option Message) → settle r log i ≡ Ok x → TakesTurn f S r (log_named log) i x
   settlings log i x q =
-      go (is_placed log i) refl (eqb log r.seat && counts_answers (entry_at r log i)) refl (can_settle r.n (entry_at r log i)) refl q
-    where
-      go : (a : Bool) → is_placed log i ≡ a → (b : Bool) → (eqb log r.seat && counts_answers (entry_at r log i)) ≡ b
-          → (d : Bool) → can_settle r.n (entry_at r log i) ≡ d
-          → ◌≡◌ {A = Step} (cond (not a) (Err NoSuchEntry) (cond (not b) (Err NotOpen) (cond (not d) (Err TooFewAnswers)
-          (Ok (with_entry r log i (settling r.n r.seat (entry_at r log i)), announced r.seat log i (settling r.n r.seat (entry_at r log i)) Accepts))))) (Ok x)
-          → TakesTurn f S r (log_named log) i x
-      go false pa b pb d pd w = absurd (grind arith)
-      go true pa false pb d pd w = absurd (grind arith)
-      go true pa true pb false pd w = absurd (grind arith)
-      go true pa true pb true pd w =
-          let p = placed_parts log i pa in
-          let e : Entry = entry_at r log i in
-          let own = and_parts (eqb log r.seat) (counts_answers e) pb in
-          let open_e = and_parts (is_open e.state) (eqb e.promised 0) own.1 in
-          let mine : r.seat ≡ log = sym (eqb-true log r.seat own.0) in
-          let high = p.2 in
-          let stands_e = s.stands.entries log (i - 1) p.0 (let l = p.1 in let h = p.2 in omega arith) in
-          same_ok (λ x. TakesTurn f S r (log_named log) i x) _ x w
-          (settles_now r.n f r.seat s.size s.few r s.stands S (log_named log) log i (number_named log p.0) p.1 p.2 mine
-          e stands_e (open_only e.state open_e.0) (eqb-true e.promised 0 open_e.1) rests s.seat pd)
+      let w = passing.settled r log i x q in
+      let p = w.place in
+      let e : Entry = entry_at r log i in
+      let own = and_parts (eqb log r.seat) (counts_answers e) w.counts in
+      let open_e = and_parts (is_open e.state) (eqb e.promised 0) own.1 in
+      let mine : r.seat ≡ log = sym (eqb-true log r.seat own.0) in
+      let high = p.2 in
+      let stands_e = s.stands.entries log (i - 1) p.0 (let l = p.1 in let h = p.2 in omega arith) in
+      subst (TakesTurn f S r (log_named log) i) w.is
+      (settles_now r.n f r.seat s.size s.few r s.stands S (log_named log) log i (number_named log p.0) p.1 p.2 mine
+      e stands_e (open_only e.state open_e.0) (eqb-true e.promised 0 open_e.1) rests s.seat w.enough)
 
   taken_over : (log i b : ℕ) → (log ≤ 1) × (1 ≤ i) × (i ≤ 128) → is_committed (entry_at r log i).state ≡ false
       → next_ballot r.seat (entry_at r log i).promised ≡ Some b
@@ -144,24 +115,13 @@ module _ (f : ℕ) (r : Replica) (s : SeatedCard f r) (S : List column.Message) 
         once (takes_over b (reports_of (set (replicate 7 None) r.seat (Some own))) (seats_of (replicate 7 false)) rise.own
             (λ c. let z = committed_only e.state c in let y : is_committed e.state ≡ true = rw z in grind arith) rise.above
             (λ k. elim (puts_one report_of None (Some own) (replicate 7 None) r.seat (omega arith) k) [
-              | inl w ↦ inl (w ∙ ap report_of (none_past None 7 k))
+              | inl w ↦ inl (w ∙ ap report_of (same_everywhere 7 k None))
               | inr w ↦ inr (w.0, w.1 ∙ report_same e)
             ])
-            (λ c. none_past false 7 c)),
+            (λ c. same_everywhere 7 c false)),
       )
 
   pub takeovers : (log i : ℕ) (x : Replica × Option Message) → takeover r log i ≡ Ok x → TakesTurn f S r (log_named log) i x
   takeovers log i x q =
-      go (is_placed log i) refl (is_committed (entry_at r log i).state) refl (is_nothing r log i)
-      (next_ballot r.seat (entry_at r log i).promised) refl q
-    where
-      go : (a : Bool) → is_placed log i ≡ a → (b : Bool) → is_committed (entry_at r log i).state ≡ b → (d : Bool)
-          → (o : Option ℕ) → next_ballot r.seat (entry_at r log i).promised ≡ o
-          → cond (not a) (Err NoSuchEntry) (cond b (Err AlreadyCommitted) (cond d (Err NothingThere) (takeover_at r log i o))) ≡ Ok x
-          → TakesTurn f S r (log_named log) i x
-      go false pa b pb d o po w = absurd (grind arith)
-      go true pa true pb d o po w = absurd (grind arith)
-      go true pa false pb true o po w = absurd (grind arith)
-      go true pa false pb false None po w = absurd (grind arith)
-      go true pa false pb false (Some b) po w =
-          same_ok (λ x. TakesTurn f S r (log_named log) i x) _ x w (taken_over log i b (placed_parts log i pa) pb po)
+      let w = passing.taken_over r log i x q in
+      subst (TakesTurn f S r (log_named log) i) w.is (taken_over log i w.ballot w.place w.undecided w.next)

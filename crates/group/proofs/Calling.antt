@@ -1,11 +1,14 @@
 -- Every call takes a sound group to a sound group.
-use Rattle.std.proofs.Common.{◌≡◌, ℕ, zero, suc, ◌<◌, ◌≤◌, Bool, true, false, cond, leb, List, [], ◌∷◌, ◌++◌, map, set, Some, None, Ok, Err, Option, sym, refl, ap, ◌∙◌, subst, inl, inr, append-nil, arith}
+use Rattle.std.proofs.Common.{◌≡◌, ℕ, ◌<◌, ◌≤◌, true, List, [], ◌∷◌, ◌++◌, map, set, Some, None, Ok, Err, Option, sym, refl, ap, ◌∙◌, subst, inl, inr, append-nil, arith}
 use mathlib.Core.Option.{some}
 use Rattle.std.proofs.lemmas.Bool.{cases_Bool}
 use Rattle.std.proofs.lemmas.Bool.Decides.{nat_tests}
+use Rattle.std.proofs.lemmas.List.{set-get_or}
+use Rattle.std.proofs.lemmas.Option.{same_Some, get_or_from_slice_get}
 use Rattle.std.specs.List.{slice_get}
 use Rattle.command.specs.declared.Command.{Command}
 use Rattle.agreement.specs.Lists.{In}
+use Rattle.agreement.proofs.Lists.{in_left, in_right}
 use Rattle.block.specs.declared.message.Message.{Message}
 use Rattle.block.specs.declared.fault.Fault.{Fault}
 use Rattle.block.specs.Verdicts.{message_fault, range_fault, misfit_fault, or_else}
@@ -19,37 +22,28 @@ use Rattle.column.specs.Moves.{Later, Later.now, Later.then}
 use Rattle.column.specs.Moves as moves
 use Rattle.entry.specs.Quorums.{majority_of}
 use Rattle.card.specs.declared.replica.Replica.{Replica}
-use Rattle.card.specs.declared.refusal.Refusal.TheVariants.{NoIdentity, NotPilot, LogFull}
 use Rattle.card.specs.Steps.{Step}
 use Rattle.card.specs.Messages.{fast_accept_message}
-use Rattle.card.specs.Tables.{with_entry, highest_taken}
+use Rattle.card.specs.Tables.{with_entry}
 use Rattle.card.specs.Checks.{is_mine, is_from_peer}
-use Rattle.card.specs.Proposing.{propose, next_entry, proposal_of, is_nameless}
+use Rattle.card.specs.Proposing.{propose, next_entry, proposal_of}
 use Rattle.card.specs.Settling.{settle}
 use Rattle.card.specs.Taking.{takeover}
 use Rattle.card.specs.Delivering.{turn, received}
 use Rattle.group.specs.declared.calls.Call.{Call}
 use Rattle.group.specs.declared.calls.Call.TheVariants.{Propose, Deliver, Settle, Takeover, Run}
-use Rattle.group.specs.Groups.{Group, seat_of, carried, delivered, stepped, called_on_card, called, after}
-use Rattle.group.specs.Turns.{SeatedCard}
+use Rattle.group.specs.Groups.{Group, seat_of, asked_by, carried, delivered, stepped, called_on_card, called, after}
+use Rattle.group.specs.Turns.{SeatedCard, TakesTurn}
 use Rattle.group.specs.Views.{number_of, log_named, noted, body_of}
+use Rattle.group.proofs.Passing.{proposed}
 use Rattle.group.proofs.Called.{deliveries_turn, proposals, settlings, takeovers}
-use Rattle.group.proofs.Keeping.{Whole, After, Kept, delivery_keeps, proposing_keeps, settling_keeps, takeover_keeps}
-use Rattle.group.proofs.Saying.{Told, settle_said, takeover_said, delivery_said}
-use Rattle.group.proofs.Grouping.{Sound, GoesOn, stays_put, advance, quietly, in_first, at_in, seated, whole}
-
-some_is : {X : Type 0} {x y : X} → ◌≡◌ {A = Option X} (Some x) (Some y) → x ≡ y
-some_is e = grind arith
-
-in_last : {X : Type 0} (xs : List X) (x y : X) → y ≡ x → In y (xs ++ (x ∷ []))
-in_last [] x y e = inl e
-in_last (z ∷ zs) x y e = inr (in_last zs x y e)
+use Rattle.group.proofs.Keeping.{Whole, After, delivery_keeps, proposing_keeps, settling_keeps, takeover_keeps}
+use Rattle.group.proofs.Saying.{Said, Told, settle_said, takeover_said, delivery_said}
+use Rattle.group.proofs.Grouping.{Sound, GoesOn, stays_put, advance, quietly, at_in, seated, whole}
 
 -- a place of a list that is set to what it holds
 pub set_same : {X : Type 0} (xs : List X) (k : ℕ) (x : X) → slice_get xs k ≡ Some x → set xs k x ≡ xs
-set_same [] k x e = refl
-set_same (y ∷ ys) zero x e = ap (λ z. z ∷ ys) (grind arith)
-set_same (y ∷ ys) (suc k) x e = ap (λ zs. y ∷ zs) (set_same ys k x e)
+set_same xs k x e = ap (set xs k) (sym (get_or_from_slice_get xs k x x e)) ∙ set-get_or xs k x
 
 -- moves after moves
 joined : {n f : ℕ} {G H K : moves.Group} → Later n f number_of holder_of G H → Later n f number_of holder_of H K → Later n f number_of holder_of G K
@@ -70,41 +64,31 @@ module _ (n f : ℕ) (fails : 0 < f) (few : n ≤ 7) (G : Group) (s : Sound n f 
     abbrev whole_of : Whole r.n r.seat r
     whole_of = whole n f fails few G s seat r here
 
+    -- a call that proposes nothing and takes a turn, or is refused
+    quiet_goes : (c : Call) → seat_of c ≡ seat → asked_by c ≡ None → (y : Step) (log i : ℕ)
+        → ((x : Replica × Option Message) → y ≡ Ok x → TakesTurn f S r (log_named log) i x)
+        → ((x : Replica × Option Message) → y ≡ Ok x → Whole r.n r.seat x.0)
+        → ((x : Replica × Option Message) → y ≡ Ok x → Said r log i x.1)
+        → Goes c y
+    quiet_goes c mine silent (Err refused) log i turns keeps says = stays_put n f fails few G s
+    quiet_goes c mine silent (Ok x) log i turns keeps says =
+        rw (mine, silent) (quietly n f fails few G s seat r here x (log_named log) log i refl (turns x refl) (keeps x refl) (says x refl))
+
     settle_goes : (log i : ℕ) → Goes (Settle seat log i) (settle r log i)
-    settle_goes log i = by (settle r log i) refl
-      where
-        by : (y : Step) → settle r log i ≡ y → Goes (Settle seat log i) y
-        by (Err refused) q = stays_put n f fails few G s
-        by (Ok x) q =
-            quietly n f fails few G s seat r here x (log_named log) log i refl (settlings f r place_of S log i x q)
-            (subst (After r place_of.few place_of.seat whole_of) q (settling_keeps r place_of.few place_of.seat whole_of log i))
-            (subst (Told r log i) q (settle_said r log i))
+    settle_goes log i =
+        quiet_goes (Settle seat log i) refl refl (settle r log i) log i (settlings f r place_of S log i)
+        (settling_keeps r place_of.few place_of.seat whole_of log i) (settle_said r log i)
 
     takeover_goes : (log i : ℕ) → Goes (Takeover seat log i) (takeover r log i)
-    takeover_goes log i = by (takeover r log i) refl
-      where
-        by : (y : Step) → takeover r log i ≡ y → Goes (Takeover seat log i) y
-        by (Err refused) q = stays_put n f fails few G s
-        by (Ok x) q =
-            quietly n f fails few G s seat r here x (log_named log) log i refl (takeovers f r place_of S log i x q)
-            (subst (After r place_of.few place_of.seat whole_of) q (takeover_keeps r place_of.few place_of.seat whole_of log i))
-            (subst (Told r log i) q (takeover_said r log i))
+    takeover_goes log i =
+        quiet_goes (Takeover seat log i) refl refl (takeover r log i) log i (takeovers f r place_of S log i)
+        (takeover_keeps r place_of.few place_of.seat whole_of log i) (takeover_said r log i)
 
     abbrev offered : Command → Replica × Option Message
     offered c = (with_entry r r.seat (next_entry r) (proposal_of r c), Some (fast_accept_message r.seat r.seat (next_entry r) (proposal_of r c)))
 
-    is_offered : (c : Command) (x : Replica × Option Message) → propose r c ≡ Ok x → offered c ≡ x
-    is_offered c x q = go (is_nameless c) (leb 2 r.seat) (leb 128 (highest_taken r r.seat)) q
-      where
-        go : (a b d : Bool) → ◌≡◌ {A = Step} (cond a (Err NoIdentity) (cond b (Err NotPilot) (cond d (Err LogFull) (Ok (offered c))))) (Ok x)
-            → offered c ≡ x
-        go true b d w = absurd (grind arith)
-        go false true d w = absurd (grind arith)
-        go false false true w = absurd (grind arith)
-        go false false false w = grind arith
-
     offers : (c b : Command) (d : ℕ) → body_of (offered c).1 ≡ some (fast_accept b d) → In b (G.proposed ++ (c ∷ []))
-    offers c b d w = in_last G.proposed c b (grind arith)
+    offers c b d w = in_right b G.proposed (c ∷ []) (inl (grind arith))
 
     propose_goes : (c : Command) → Goes (Propose seat c) (propose r c)
     propose_goes c = by (propose r c) refl
@@ -112,13 +96,13 @@ module _ (n f : ℕ) (fails : 0 < f) (few : n ≤ 7) (G : Group) (s : Sound n f 
         by : (y : Step) → propose r c ≡ y → Goes (Propose seat c) y
         by (Err refused) q = stays_put n f fails few G s
         by (Ok x) q =
-            let z = is_offered c x q in
+            let z = (proposed r c x q).is in
             advance n f fails few G s seat r here x (G.proposed ++ (c ∷ [])) (log_named r.seat) r.seat (next_entry r) refl (proposals f r place_of S c x q)
-            (subst (After r place_of.few place_of.seat whole_of) q (proposing_keeps r place_of.few place_of.seat whole_of c))
+            (proposing_keeps r place_of.few place_of.seat whole_of c x q)
             (subst (λ y. (m : Message) → y.1 ≡ Some m → (m.from ≡ r.seat) × (m.log ≡ r.seat) × (m.entry ≡ next_entry r)) z
-            (λ m w. subst (λ k. (k.from ≡ r.seat) × (k.log ≡ r.seat) × (k.entry ≡ next_entry r)) (some_is w) (refl, refl, refl)))
+            (λ m w. subst (λ k. (k.from ≡ r.seat) × (k.log ≡ r.seat) × (k.entry ≡ next_entry r)) (same_Some _ m w) (refl, refl, refl)))
             (subst (λ y. (b : Command) (d : ℕ) → body_of y.1 ≡ some (fast_accept b d) → In b (G.proposed ++ (c ∷ []))) z (offers c))
-            (in_first G.proposed (c ∷ []))
+            (λ b. in_left b G.proposed (c ∷ []))
 
     -- a message that was sent, and that passes as a block
     module _ (m : Message) (k : ℕ) (sent : slice_get G.sent k ≡ Some m) (passes : message_fault m 512 ≡ None) where
@@ -134,22 +118,17 @@ module _ (n f : ℕ) (fails : 0 < f) (few : n ≤ 7) (G : Group) (s : Sound n f 
           second (Some fault) q = absurd (grind arith)
 
       turn_goes : is_mine r m ≡ true → is_from_peer r m ≡ true → Goes (Deliver seat k) (turn r m)
-      turn_goes mine peer = by (turn r m) refl
+      turn_goes mine peer =
+          quiet_goes (Deliver seat k) refl refl (turn r m) m.log m.entry
+          (deliveries_turn f r place_of S m sound_message (at_in noted G.sent k m sent) mine peer)
+          (λ x q. subst (After r) q (delivery_keeps r place_of.few some_fail place_of.seat whole_of m sound_message from_seat))
+          (λ x q. subst (Told r m.log m.entry) q (delivery_said r m))
         where
           from_seat : m.from < r.n
           from_seat = grind (arith, nat_tests)
 
           some_fail : 2 ≤ majority_of r.n
           some_fail = let a = place_of.size in let b = place_of.some_fail in grind arith
-
-          by : (y : Step) → turn r m ≡ y → Goes (Deliver seat k) y
-          by (Err refused) q = stays_put n f fails few G s
-          by (Ok x) q =
-              quietly n f fails few G s seat r here x (log_named m.log) m.log m.entry refl
-              (deliveries_turn f r place_of S m sound_message (at_in noted G.sent k m sent) mine peer x q)
-              (subst (Kept r place_of.few some_fail place_of.seat whole_of m sound_message from_seat) q
-              (delivery_keeps r place_of.few some_fail place_of.seat whole_of m sound_message from_seat))
-              (subst (Told r m.log m.entry) q (delivery_said r m))
 
       received_goes : Goes (Deliver seat k) (received r (Ok m))
       received_goes = elim (cases_Bool (is_mine r m)) [

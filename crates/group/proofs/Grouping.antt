@@ -1,11 +1,14 @@
 -- A group of cards moves as the argument allows, so its cards never disagree.
-use Rattle.std.proofs.Common.{◌≡◌, ℕ, zero, suc, ◌<◌, ◌≤◌, ◌⊎◌, List, [], ◌∷◌, ◌++◌, map, length, set, Some, None, Option, sym, refl, ap, ◌∙◌, subst, inl, inr, arith, length-set}
+use Rattle.std.proofs.Common.{◌≡◌, ℕ, zero, suc, ◌<◌, ◌≤◌, List, [], ◌∷◌, ◌++◌, map, length, set, Some, None, Option, sym, refl, ap, ◌∙◌, subst, inl, inr, arith, length-set}
 use mathlib.Core.Option.{some, none}
 use mathlib.Core.Option as maybe
 use Rattle.std.proofs.lemmas.Bool.{cases_eq}
+use Rattle.std.proofs.lemmas.List.{get_or-set_same, map-append}
+use Rattle.std.proofs.lemmas.Option.{slice_get_read, slice_get_within}
 use Rattle.std.specs.List.{slice_get}
 use Rattle.command.specs.declared.Command.{Command}
 use Rattle.agreement.specs.Lists.{In}
+use Rattle.agreement.proofs.Lists.{in_left, in_parts}
 use Rattle.agreement.specs.Logs.{Log, other, Content.content, Value.command}
 use Rattle.agreement.specs.Histories.{Event.propose, Note}
 use Rattle.block.specs.declared.message.Message.{Message}
@@ -28,9 +31,7 @@ use Rattle.group.proofs.Saying.{Says, Said}
 
 -- places of a list
 pub at_inside : {X : Type 0} (xs : List X) (k : ℕ) (x : X) → slice_get xs k ≡ Some x → k < length xs
-at_inside [] k x e = absurd (grind arith)
-at_inside (y ∷ ys) zero x e = omega arith
-at_inside (y ∷ ys) (suc k) x e = let ih = at_inside ys k x e in omega arith
+at_inside xs k x e = slice_get_within xs k x e
 
 pub at_in : {X Y : Type 0} (h : X → Y) (xs : List X) (k : ℕ) (x : X) → slice_get xs k ≡ Some x → In (h x) (map h xs)
 at_in h [] k x e = absurd (grind arith)
@@ -38,9 +39,7 @@ at_in h (y ∷ ys) zero x e = inl (ap h (grind arith))
 at_in h (y ∷ ys) (suc k) x e = inr (at_in h ys k x e)
 
 pub at_here : {X : Type 0} (xs : List X) (k : ℕ) (x : X) → k < length xs → slice_get (set xs k x) k ≡ Some x
-at_here [] k x l = absurd (omega arith)
-at_here (y ∷ ys) zero x l = refl
-at_here (y ∷ ys) (suc k) x l = at_here ys k x (omega arith)
+at_here xs k x l = slice_get_read (set xs k x) (length xs) k x (sym (length-set xs k x)) l (sym (get_or-set_same xs k x x l))
 
 pub at_other : {X : Type 0} (xs : List X) (k j : ℕ) (x : X) → (j ≡ k → ⊥) → slice_get (set xs k x) j ≡ slice_get xs j
 at_other [] k j x ne = refl
@@ -48,16 +47,6 @@ at_other (y ∷ ys) zero zero x ne = absurd (ne refl)
 at_other (y ∷ ys) zero (suc j) x ne = refl
 at_other (y ∷ ys) (suc k) zero x ne = refl
 at_other (y ∷ ys) (suc k) (suc j) x ne = at_other ys k j x (λ e. ne (ap suc e))
-
-in_map_append : {X Y : Type 0} (h : X → Y) (xs ys : List X) (y : Y) → In y (map h (xs ++ ys)) → In y (map h xs) ⊎ In y (map h ys)
-in_map_append h [] ys y j = inr j
-in_map_append h (x ∷ xs) ys y (inl e) = inl (inl e)
-in_map_append h (x ∷ xs) ys y (inr j) = elim (in_map_append h xs ys y j) [ inl a ↦ inl (inr a) | inr b ↦ inr b ]
-
-pub in_first : {X : Type 0} (xs ys : List X) (y : X) → In y xs → In y (xs ++ ys)
-in_first [] ys y j = absurd j
-in_first (z ∷ zs) ys y (inl e) = inl e
-in_first (z ∷ zs) ys y (inr j) = inr (in_first zs ys y j)
 
 -- the cards of a group, as the argument sees them
 abbrev pub takeover_on : Option Replica → maybe.Option column.Takeover
@@ -148,7 +137,7 @@ module _ (n f : ℕ) where
           apart = cell_other;
           mine = ap takeover_on there;
           others = λ s' ne. ap takeover_on (at_other G.cards seat s' x.0 ne);
-          posted = λ y j. elim (in_map_append noted G.sent (one_of x.1) y j) [ inl a ↦ inr a | inr b ↦ inl (posted x.1 said y b) ];
+          posted = λ y j. elim (in_parts y (map noted G.sent) (map noted (one_of x.1)) (rw map-append at j)) [ inl a ↦ inr a | inr b ↦ inl (posted x.1 said y b) ];
           asks = asks;
           asked = keeps;
           grown = refl;
@@ -205,7 +194,7 @@ module _ (n f : ℕ) (fails : 0 < f) (few : n ≤ 7) where
 
   module _ (G : Group) (s : Sound n f G) (seat : ℕ) (r : Replica) (here : slice_get G.cards seat ≡ Some r) where
     inside : seat < n
-    inside = let l = at_inside G.cards seat r here in omega (arith, s.count_is)
+    inside = let l = slice_get_within G.cards seat r here in omega (arith, s.count_is)
 
     mine : PlacedCard n f G.cards seat
     mine = s.cards seat inside
@@ -255,7 +244,7 @@ module _ (n f : ℕ) (fails : 0 < f) (few : n ≤ 7) where
     quietly x g log i named turn st said =
         advance x (G.proposed ++ []) g log i named turn st
         (λ m e. let w : Says r.seat log i m = subst (Said r log i) e said in (w.from, w.log, w.place))
-        (λ c d e. absurd (silent x.1 said c d e)) (in_first G.proposed [])
+        (λ c d e. absurd (silent x.1 said c d e)) (λ c. in_left c G.proposed [])
       where
         silent : (o : Option Message) → Said r log i o → (c : Command) (d : ℕ) → body_of o ≡ some (fast_accept c d) → ⊥
         silent None w c d e = grind arith

@@ -7,7 +7,6 @@ use Rattle.std.proofs.lemmas.Bool.{cases_Bool, cases_eq, and_parts, eqb-true}
 use Rattle.std.proofs.lemmas.Bool.Decides.{nat_tests}
 use Rattle.agreement.specs.Logs.{Log, other}
 use Rattle.agreement.specs.Lists.{In}
-use Rattle.agreement.specs.Histories.{Event}
 use Rattle.block.specs.Ballots.{holder_of}
 use Rattle.agreement.specs.Quorums.{count}
 use Rattle.block.specs.declared.message.Message.{Message}
@@ -93,9 +92,6 @@ module _ (n f s : ℕ) (size : n ≡ 2 * f + 1) (few : n ≤ 7) (r : Replica) (s
   -- an entry that was counted on, and what all are told of it
   abbrev pub told : Entry × Progress → Replica × Option Message
   told x = (with_entry r log i x.0, announced r.seat log i x.0 x.1)
-
-  abbrev pub Acts : Cell → maybe.Option column.Takeover → Cell → maybe.Option column.Takeover → maybe.Option Body → Type 0
-  Acts a u b w body = (es : List Event) × Act n f number_of holder_of g i s S (cell_at r (other g)) a u b w body es
 
   -- the answers in the entry x were counted just now
   module _ (x : Entry) (stands_x : StandingEntry n x) (st : x.state ≡ Answered) (pr : x.promised ≡ 0)

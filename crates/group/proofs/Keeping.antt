@@ -25,7 +25,7 @@ use Rattle.entry.specs.Entries as entries
 use Rattle.entry.specs.Owners.{is_open, with_answers, with_accepts, proposing, settling, has_fast_quorum, has_two_replies, can_settle, decided, is_accepted, acknowledging, counts_answers, hearing}
 use Rattle.entry.specs.Quorums.{majority_of}
 use Rattle.entry.specs.declared.entry.Progress.{Progress}
-use Rattle.entry.specs.declared.entry.Progress.TheVariants.{Waits, Accepts, Commits}
+use Rattle.entry.specs.declared.entry.Progress.TheVariants.{Waits, Commits}
 use Rattle.std.specs.List.{count_by as counted_in}
 use Rattle.entry.specs.Reports.{is_reported, choice}
 use Rattle.entry.specs.Takeovers.{takeover_of as takeover_from, begun, is_live, gathered, reporting, agreed}
@@ -33,31 +33,36 @@ use Rattle.entry.specs.Takeovers as takeovers
 use Rattle.card.specs.declared.replica.Replica.{Replica}
 use Rattle.command.specs.declared.Command.{Command}
 use Rattle.block.specs.declared.message.Value.TheVariants as value
-use Rattle.entry.specs.Ballots.{next_ballot}
-use Rattle.card.specs.declared.refusal.Refusal.TheVariants.{DifferentCommit, NoIdentity, NotPilot, LogFull, NoSuchEntry, NotOpen, TooFewAnswers, AlreadyCommitted, NothingThere}
-use Rattle.card.specs.Messages.{fast_accept_message, announced}
-use Rattle.card.specs.Proposing.{is_nameless, next_entry, proposal_of, propose}
+use Rattle.card.specs.declared.refusal.Refusal.TheVariants.{DifferentCommit}
+use Rattle.card.specs.Proposing.{next_entry, proposal_of, propose}
 use Rattle.card.specs.Settling.{settle}
-use Rattle.card.specs.Taking.{is_nothing, takeover_at, takeover}
-use Rattle.card.specs.Tables.{absent, log_of, entry_at, with_entry, with_takeover, is_placed, highest_held, highest_taken, is_blocked}
+use Rattle.card.specs.Taking.{takeover}
+use Rattle.card.specs.Tables.{absent, log_of, entry_at, with_entry, with_takeover, highest_held, is_blocked}
 use Rattle.card.specs.Steps.{Step}
 use Rattle.card.specs.Delivering.{nothing, recommits, answers, hears, acknowledges_owner, acknowledges_by, acknowledges_takeover, reports_by, reports, reported_in, same_value, on_fast_accept, on_answer, on_accept_ok, unless_committed, accepts, promises, raises, turn_by, turn}
 use Rattle.group.specs.Choices.{Chosen, Chosen.as_accepted, Chosen.as_voted, Chosen.as_noop}
 use Rattle.group.specs.Settlements.{Low}
 use Rattle.group.specs.Standing.{Seated, StandingEntry, StandingTakeover, StandingMaybe, Standing, ValuedEntry, ValuedReport, Valued}
-use Rattle.group.proofs.Beginning.{seated, none_past}
+use Rattle.column.proofs.Cards.{same_everywhere}
+use Rattle.group.proofs.Beginning.{seated}
 use Rattle.group.proofs.Choosing.{reports_choose}
 use Rattle.group.proofs.Counting.{seated_more}
 use Rattle.group.proofs.Settling.{settled_low}
 use Rattle.group.proofs.Hearing.{noted_stands_at}
 use Rattle.group.proofs.Scanning.{scans_find, highest_held_low}
-use Rattle.group.proofs.Called.{untaken, placed_parts}
+use Rattle.group.proofs.Called.{untaken}
+use Rattle.group.proofs.Passing.{proposed, settled, taken_over}
 use Rattle.group.proofs.Placing.{logs_two, item_here, item_other, shaped}
 
 -- a card that stands, with values
 pub record Whole (n s : ℕ) (r : Replica) : Type 0 where
   pub stands : Standing n s r
   pub valued : Valued r
+
+-- what a call comes to leaves the card whole
+abbrev pub After : Replica → Step → Type 0
+After r (Ok x) = Whole r.n r.seat x.0
+After r (Err refused) = Unit {0}
 
 -- an entry that stands, and that has a value where it is not empty
 record WholeEntry (n : ℕ) (e : Entry) : Type 0 where
@@ -311,7 +316,7 @@ begun_stands n log i b seat own inside few low valued =
     false seat own inside few low valued
   where
     none : (c : ℕ) (x : Reported) → get_or (replicate 7 None) c None ≡ Some x → ⊥
-    none c x q = let z = none_past {X = Option Reported} None 7 c in grind arith
+    none c x q = let z = same_everywhere {X = Option Reported} 7 c None in grind arith
 
 -- what a message to the takeover u of the entry e leads to
 record BothStand (n : ℕ) (u : Takeover) (e : Entry) (x : Takeover × Entry × Progress) : Type 0 where
@@ -515,10 +520,6 @@ module _ (r : Replica) (few : r.n ≤ 7) (some : 2 ≤ majority_of r.n) (seat_s 
         | inr l ↦ rw l whole
       ]
 
-  abbrev pub Kept : Step → Type 0
-  Kept (Ok x) = Keeps x
-  Kept (Err refused) = Unit {0}
-
   unless_keeps : (x y : Replica × Option Message) (st : State) → Keeps x → Keeps y → Keeps (unless_committed st x y)
   unless_keeps x y Empty a b = a
   unless_keeps x y Answered a b = a
@@ -530,7 +531,7 @@ module _ (r : Replica) (few : r.n ≤ 7) (some : 2 ≤ majority_of r.n) (seat_s 
       write (committing e m.value m.dependency) (committing_stands r.n e whole_e m.value m.dependency valid.dependency valued) (λ z. absurd (valued z))
 
   commit_keeps : (m.value ≡ value.Nothing → ⊥) → (st : State)
-      → Kept (unless_committed st (Ok (with_entry r m.log m.entry (committing e m.value m.dependency), None))
+      → After r (unless_committed st (Ok (with_entry r m.log m.entry (committing e m.value m.dependency), None))
       (cond (same_value e.value m.value && eqb e.dependency m.dependency) (Ok (nothing r)) (Err DifferentCommit)))
   commit_keeps valued Empty = committed_now valued
   commit_keeps valued Answered = committed_now valued
@@ -571,7 +572,7 @@ module _ (r : Replica) (few : r.n ≤ 7) (some : 2 ≤ majority_of r.n) (seat_s 
       by report.Vote h = absurd (grind arith)
       by (report.Accepted b) h = absurd (grind arith)
 
-  kind_keeps : (k : Kind) → m.kind ≡ k → Kept (turn_by k r m e)
+  kind_keeps : (k : Kind) → m.kind ≡ k → After r (turn_by k r m e)
   kind_keeps FastAccept q = proposal_keeps (λ z. let h = value_fit FastAccept q z in grind arith) e.state refl
   kind_keeps FastAcceptOk q =
       answer_keeps (Vote e.dependency) (λ d q. let z : d ≡ e.dependency = grind arith in let l = whole_e.stands.dependency in omega arith) (λ d q. grind arith) e.state refl
@@ -585,7 +586,7 @@ module _ (r : Replica) (few : r.n ≤ 7) (some : 2 ≤ majority_of r.n) (seat_s 
   kind_keeps PrepareOk q = unless_keeps (reports r m e) (nothing r) e.state (report_keeps (reported_valued q)) whole
   kind_keeps Reject q = unless_keeps (raises r m e) (nothing r) e.state reject_keeps whole
 
-  pub delivery_keeps : Kept (turn r m)
+  pub delivery_keeps : After r (turn r m)
   delivery_keeps = kind_keeps m.kind refl
 
 -- the other calls leave the card standing too
@@ -593,64 +594,43 @@ module _ (r : Replica) (few : r.n ≤ 7) (seat_s : r.seat < r.n) (whole : Whole 
   abbrev stands : Standing r.n r.seat r
   stands = whole.stands
 
-  abbrev pub After : Step → Type 0
-  After (Ok x) = Whole r.n r.seat x.0
-  After (Err refused) = Unit {0}
+  pub proposing_keeps : (c : Command) (x : Replica × Option Message) → propose r c ≡ Ok x → Whole r.n r.seat x.0
+  proposing_keeps c x q =
+      let w = proposed r c x q in
+      let low = w.low in
+      let room = w.room in
+      let i : ℕ = next_entry r in
+      let e : Entry = entry_at r r.seat i in
+      let free : is_taken e ≡ false = elim (cases_Bool (is_taken e)) [
+        | inl t ↦ absurd (let k = (scans_find r stands.shape).taken r.seat i low (omega arith) (omega arith) t in omega arith)
+        | inr t ↦ t
+      ] in
+      let whole_e = whole_at r.n r.seat r whole r.seat i low (omega arith) (omega arith) in
+      let top : highest_held r (1 - r.seat) ≤ 128 = highest_held_low r stands.shape (1 - r.seat) (omega arith) in
+      subst (λ x. Whole r.n r.seat x.0) w.is
+      (written_stands r.n r.seat r whole r.seat i low (omega arith) (omega arith) (proposal_of r c)
+      (proposing_stands r.n e whole_e r.seat (value.Command c) (highest_held r (1 - r.seat)) seat_s top few (λ z. grind arith) (untaken e free).0)
+      (λ z. absurd (grind arith)))
 
-  pub proposing_keeps : (c : Command) → After (propose r c)
-  proposing_keeps c = go (is_nameless c) (leb 2 r.seat) refl (leb 128 (highest_taken r r.seat)) refl
-    where
-      go : (a b : Bool) → leb 2 r.seat ≡ b → (d : Bool) → leb 128 (highest_taken r r.seat) ≡ d
-          → After (cond a (Err NoIdentity) (cond b (Err NotPilot) (cond d (Err LogFull)
-          (Ok (with_entry r r.seat (next_entry r) (proposal_of r c), Some (fast_accept_message r.seat r.seat (next_entry r) (proposal_of r c)))))))
-      go true b pb d pd = tt
-      go false true pb d pd = tt
-      go false false pb true pd = tt
-      go false false pb false pd =
-          let low : r.seat ≤ 1 = grind (arith, nat_tests) in
-          let room : highest_taken r r.seat < 128 = grind (arith, nat_tests) in
-          let i : ℕ = next_entry r in
-          let e : Entry = entry_at r r.seat i in
-          let free : is_taken e ≡ false = elim (cases_Bool (is_taken e)) [
-            | inl t ↦ absurd (let k = (scans_find r stands.shape).taken r.seat i low (omega arith) (omega arith) t in omega arith)
-            | inr t ↦ t
-          ] in
-          let whole_e = whole_at r.n r.seat r whole r.seat i low (omega arith) (omega arith) in
-          let top : highest_held r (1 - r.seat) ≤ 128 = highest_held_low r stands.shape (1 - r.seat) (omega arith) in
-          written_stands r.n r.seat r whole r.seat i low (omega arith) (omega arith) (proposal_of r c)
-          (proposing_stands r.n e whole_e r.seat (value.Command c) (highest_held r (1 - r.seat)) seat_s top few (λ z. grind arith) (untaken e free).0)
-          (λ z. absurd (grind arith))
+  pub settling_keeps : (log i : ℕ) (x : Replica × Option Message) → settle r log i ≡ Ok x → Whole r.n r.seat x.0
+  settling_keeps log i x q =
+      let w = settled r log i x q in
+      let p = w.place in
+      let counts = w.counts in
+      let whole_e : WholeEntry r.n (entry_at r log i) = whole_at r.n r.seat r whole log i p.0 p.1 p.2 in
+      subst (λ x. Whole r.n r.seat x.0) w.is
+      (written_stands r.n r.seat r whole log i p.0 p.1 p.2 (settling r.n r.seat (entry_at r log i))
+      (settling_stands r.n (entry_at r log i) whole_e r.seat seat_s (λ z. let y = whole_e.valued z in grind arith)) (λ z. z))
 
-  pub settling_keeps : (log i : ℕ) → After (settle r log i)
-  settling_keeps log i = go (is_placed log i) refl (eqb log r.seat && counts_answers (entry_at r log i)) refl (can_settle r.n (entry_at r log i))
-    where
-      go : (a : Bool) → is_placed log i ≡ a → (b : Bool) → (eqb log r.seat && counts_answers (entry_at r log i)) ≡ b → (d : Bool)
-          → After (cond (not a) (Err NoSuchEntry) (cond (not b) (Err NotOpen) (cond (not d) (Err TooFewAnswers)
-          (Ok (with_entry r log i (settling r.n r.seat (entry_at r log i)), announced r.seat log i (settling r.n r.seat (entry_at r log i)) Accepts)))))
-      go false pa b pb d = tt
-      go true pa false pb d = tt
-      go true pa true pb false = tt
-      go true pa true pb true =
-          let p = placed_parts log i pa in
-          let whole_e : WholeEntry r.n (entry_at r log i) = whole_at r.n r.seat r whole log i p.0 p.1 p.2 in
-          written_stands r.n r.seat r whole log i p.0 p.1 p.2 (settling r.n r.seat (entry_at r log i))
-          (settling_stands r.n (entry_at r log i) whole_e r.seat seat_s (λ z. let y = whole_e.valued z in grind arith)) (λ z. z)
-
-  pub takeover_keeps : (log i : ℕ) → After (takeover r log i)
-  takeover_keeps log i =
-      go (is_placed log i) refl (is_committed (entry_at r log i).state) (is_nothing r log i) (next_ballot r.seat (entry_at r log i).promised)
-    where
-      go : (a : Bool) → is_placed log i ≡ a → (b d : Bool) (o : Option ℕ)
-          → After (cond (not a) (Err NoSuchEntry) (cond b (Err AlreadyCommitted) (cond d (Err NothingThere) (takeover_at r log i o))))
-      go false pa b d o = tt
-      go true pa true d o = tt
-      go true pa false true o = tt
-      go true pa false false None = tt
-      go true pa false false (Some b) =
-          let p = placed_parts log i pa in
-          let e : Entry = entry_at r log i in
-          let whole_e = whole_at r.n r.seat r whole log i p.0 p.1 p.2 in
-          took_stands r.n r.seat (with_entry r log i (promising e b))
-          (written_stands r.n r.seat r whole log i p.0 p.1 p.2 (promising e b) (promising_stands r.n e whole_e b) (λ z. z))
-          (begun log i b r.seat (entries.report_of e)) (begun_stands r.n log i b r.seat (entries.report_of e) seat_s few (report_low r.n e whole_e.stands) (report_valued e whole_e.valued))
-          (λ t. absurd (grind arith))
+  pub takeover_keeps : (log i : ℕ) (x : Replica × Option Message) → takeover r log i ≡ Ok x → Whole r.n r.seat x.0
+  takeover_keeps log i x q =
+      let w = taken_over r log i x q in
+      let p = w.place in
+      let b = w.ballot in
+      let e : Entry = entry_at r log i in
+      let whole_e = whole_at r.n r.seat r whole log i p.0 p.1 p.2 in
+      subst (λ x. Whole r.n r.seat x.0) w.is
+      (took_stands r.n r.seat (with_entry r log i (promising e b))
+      (written_stands r.n r.seat r whole log i p.0 p.1 p.2 (promising e b) (promising_stands r.n e whole_e b) (λ z. z))
+      (begun log i b r.seat (entries.report_of e)) (begun_stands r.n log i b r.seat (entries.report_of e) seat_s few (report_low r.n e whole_e.stands) (report_valued e whole_e.valued))
+      (λ t. absurd (grind arith)))

@@ -8,6 +8,7 @@ pub mod Turning
 pub mod Hearing
 pub mod Taking
 pub mod Delivered
+pub mod Passing
 pub mod Called
 pub mod Keeping
 pub mod Saying

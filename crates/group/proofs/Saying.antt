@@ -1,5 +1,5 @@
 -- What a card says is from its seat, about the entry of the call, and a proposal only where it proposes.
-use Rattle.std.proofs.Common.{◌≡◌, ℕ, Bool, true, false, cond, not, ◌&&◌, eqb, ltb, leb, Some, None, Ok, Err, Option, refl, inl, inr, arith}
+use Rattle.std.proofs.Common.{◌≡◌, ℕ, cond, ◌&&◌, eqb, ltb, leb, Some, None, Ok, Err, Option, refl, subst, inl, inr, arith}
 use Rattle.std.proofs.lemmas.Bool.{cases_Bool}
 use Rattle.block.specs.declared.message.Kind.{Kind}
 use Rattle.block.specs.declared.message.Kind.TheVariants.{FastAccept, FastAcceptOk, FastAcceptReply, Accept, AcceptOk, Commit, Prepare, PrepareOk, Reject}
@@ -11,21 +11,21 @@ use Rattle.entry.specs.declared.entry.Progress.TheVariants.{Waits, Accepts, Comm
 use Rattle.entry.specs.declared.entry.State.{State}
 use Rattle.entry.specs.declared.entry.State.TheVariants.{Empty, Answered, Accepted, Committed}
 use Rattle.entry.specs.declared.takeover.Takeover.{Takeover}
-use Rattle.entry.specs.Ballots.{next_ballot}
-use Rattle.entry.specs.Entries.{is_committed, committing}
+use Rattle.entry.specs.Entries.{committing}
 use Rattle.entry.specs.declared.answers.Answer.TheVariants.{Vote, Reply}
 use Rattle.entry.specs.Owners.{counts_answers, can_settle, settling, hearing}
 use Rattle.entry.specs.Owners as owners
 use Rattle.entry.specs.Takeovers.{is_live, reporting}
 use Rattle.entry.specs.Takeovers as takeovers
-use Rattle.card.specs.declared.refusal.Refusal.TheVariants.{DifferentCommit, NoSuchEntry, NotOpen, TooFewAnswers, AlreadyCommitted, NothingThere}
+use Rattle.card.specs.declared.refusal.Refusal.TheVariants.{DifferentCommit}
 use Rattle.card.specs.declared.replica.Replica.{Replica}
 use Rattle.card.specs.Steps.{Step}
-use Rattle.card.specs.Tables.{is_placed, entry_at, with_entry}
+use Rattle.card.specs.Tables.{entry_at, with_entry}
 use Rattle.card.specs.Messages.{announced, fast_answer}
 use Rattle.card.specs.Settling.{settle}
-use Rattle.card.specs.Taking.{is_nothing, takeover_at, takeover}
+use Rattle.card.specs.Taking.{takeover}
 use Rattle.card.specs.Delivering.{nothing, recommits, rejects, answer_on, answers, hears, acknowledges_owner, acknowledges_by, acknowledges_takeover, reports_by, reports, reported_in, same_value, on_fast_accept, on_answer, on_accept_ok, unless_committed, accepts, promises, raises, turn_by, turn}
+use Rattle.group.proofs.Passing.{settled, taken_over}
 
 pub record Says (seat l i : ℕ) (m : Message) : Type 0 where
   pub from : m.from ≡ seat
@@ -54,27 +54,13 @@ module _ (r : Replica) (log i : ℕ) where
     | inr v ↦ rw v (record { from = refl; log = refl; place = refl; no_proposal = λ k. grind arith })
   ]
 
-  pub settle_said : Told (settle r log i)
-  settle_said = go (is_placed log i) (eqb log r.seat && counts_answers (entry_at r log i)) (can_settle r.n (entry_at r log i))
-    where
-      go : (a b d : Bool)
-          → Told (cond (not a) (Err NoSuchEntry) (cond (not b) (Err NotOpen) (cond (not d) (Err TooFewAnswers)
-          (Ok (with_entry r log i (settling r.n r.seat (entry_at r log i)), announced r.seat log i (settling r.n r.seat (entry_at r log i)) Accepts)))))
-      go false b d = tt
-      go true false d = tt
-      go true true false = tt
-      go true true true = record { from = refl; log = refl; place = refl; no_proposal = λ k. grind arith }
+  pub settle_said : (x : Replica × Option Message) → settle r log i ≡ Ok x → Said x.1
+  settle_said x q = let w = settled r log i x q in subst (λ x. Said x.1) w.is (announced_said (settling r.n r.seat (entry_at r log i)) Accepts)
 
-  pub takeover_said : Told (takeover r log i)
-  takeover_said = go (is_placed log i) (is_committed (entry_at r log i).state) (is_nothing r log i) (next_ballot r.seat (entry_at r log i).promised)
-    where
-      go : (a b d : Bool) (o : Option ℕ)
-          → Told (cond (not a) (Err NoSuchEntry) (cond b (Err AlreadyCommitted) (cond d (Err NothingThere) (takeover_at r log i o))))
-      go false b d o = tt
-      go true true d o = tt
-      go true false true o = tt
-      go true false false None = tt
-      go true false false (Some b) = record { from = refl; log = refl; place = refl; no_proposal = λ k. grind arith }
+  pub takeover_said : (x : Replica × Option Message) → takeover r log i ≡ Ok x → Said x.1
+  takeover_said x q =
+      let w = taken_over r log i x q in
+      subst (λ x. Said x.1) w.is (record { from = refl; log = refl; place = refl; no_proposal = λ k. grind arith })
 
 module _ (r : Replica) (m : Message) where
   abbrev e : Entry
