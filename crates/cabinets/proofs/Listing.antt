@@ -1,15 +1,13 @@
 -- Lists of commands that ran, and the first of each identity among them.
-use Rattle.std.proofs.Common.{◌≡◌, ℕ, zero, suc, ◌+◌, ◌<◌, Bool, true, false, cond, ◌||◌, eqb, List, [], ◌∷◌, ◌++◌, map, length, get_or, drop, Some, sym, refl, ap, ◌∙◌, inl, inr, append_assoc, append-nil, arith}
+use Rattle.std.proofs.Common.{◌≡◌, ℕ, zero, suc, Bool, true, false, cond, ◌||◌, eqb, ◌==◌, filter, List, [], ◌∷◌, ◌++◌, map, Some, sym, refl, ap, ◌∙◌, inl, inr, append_assoc, append-nil, arith}
 use mathlib.Core.List.{map-append}
 use Rattle.std.specs.List.{slice_get}
-use Rattle.std.proofs.lemmas.List.{at_drop_more}
 use Rattle.std.proofs.lemmas.Bool.Decides.{nat_tests}
 use Rattle.command.specs.declared.Command.{Command}
 use Rattle.command.specs.declared.Identity.{Identity}
 use Rattle.agreement.specs.Lists.{In, Agree, seen, firsts_past, Distinct}
 use Rattle.agreement.specs.Walks.{Step, Step.step, same_identity, identity_of, once_each}
 use Rattle.machine.specs.Onces.{known}
-use Rattle.cabinets.specs.declared.answer.Listed.{Listed}
 use Rattle.cabinets.specs.declared.answer.Ran.{Ran}
 use Rattle.cabinets.specs.Promises.{list_in, command_identity}
 
@@ -103,23 +101,9 @@ nth_front [] r k p q a b = absurd (grind arith)
 nth_front (x ∷ l) r zero p q a b = grind arith
 nth_front (x ∷ l) r (suc k) p q a b = nth_front l r k p q a b
 
--- one more of all that ran, on the card in the seat or on another
-pub mine_more : (seat : ℕ) (xs : List Ran) (i : ℕ) (d : Ran) (old new whole : List Listed) → i < length xs → (get_or xs i d).seat ≡ seat
-    → new ≡ old ++ ((get_or xs i d).listed ∷ []) → old ++ list_in seat (drop i xs) ≡ whole
-    → new ++ list_in seat (drop (i + 1) xs) ≡ whole
-mine_more seat xs i d old new whole within mine pushed so =
-    let x = get_or xs i d in
-    let rest = list_in seat (drop (i + 1) xs) in
-    let is : eqb x.seat seat ≡ true = grind (arith, nat_tests) in
-    ap (λ l. l ++ rest) pushed
-    ∙ (append_assoc old (x.listed ∷ []) rest
-    ∙ (ap (λ b. old ++ cond b (x.listed ∷ rest) rest) (sym is) ∙ (ap (λ l. old ++ l) (sym (at_drop_more (list_in seat) xs i d within)) ∙ so)))
-
-pub other_more : (seat : ℕ) (xs : List Ran) (i : ℕ) (d : Ran) (old whole : List Listed) → i < length xs → ((get_or xs i d).seat ≡ seat → ⊥)
-    → old ++ list_in seat (drop i xs) ≡ whole
-    → old ++ list_in seat (drop (i + 1) xs) ≡ whole
-other_more seat xs i d old whole within other so =
-    let x = get_or xs i d in
-    let rest = list_in seat (drop (i + 1) xs) in
-    let is : eqb x.seat seat ≡ false = grind (arith, nat_tests) in
-    ap (λ b. old ++ cond b (x.listed ∷ rest) rest) (sym is) ∙ (ap (λ l. old ++ l) (sym (at_drop_more (list_in seat) xs i d within)) ∙ so)
+-- the list as the code makes it
+pub list_is : (seat : ℕ) (xs : List Ran) → map (λ x. x.listed) (filter (λ x. x.seat == seat) xs) ≡ list_in seat xs
+list_is seat [] = refl
+list_is seat (x ∷ xs) =
+    let more = list_is seat xs in
+    grind (arith, nat_tests)

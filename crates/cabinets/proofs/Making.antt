@@ -9,10 +9,9 @@ use Rattle.card.specs.Groups.{is_group}
 use Rattle.fitted.specs.declared.make.NotMade.{NotMade}
 use Rattle.fitted.specs.declared.make.NotMade.TheVariants.{Refused, NoMemory}
 use Rattle.fitted.specs.Makes.{new_meaning}
-use Rattle.cabinets.specs.declared.make.Make.{Make}
-use Rattle.cabinets.specs.declared.seat.Seat.{Seat}
+use Rattle.cabinets.specs.declared.seat.Make.{Make}
 use Rattle.cabinets.specs.Groups.{Group, New}
-use Rattle.cabinets.specs.Makes.{makes, seated, cards_of}
+use Rattle.cabinets.specs.Makes.{Seat, makes, seated, cards_of}
 use Rattle.cabinets.specs.New.{group_size, start_of, NotMadeFor, Fitted}
 
 pub group_seat : (n seat : ℕ) → is_group n 0 ≡ true → seat < n → is_group n seat ≡ true

@@ -5,8 +5,9 @@ use Rattle.command.specs.declared.Command.{Command}
 use Rattle.machine.specs.declared.rule.Machine.{Ghosts}
 use Rattle.machine.specs.Rules.{Rule, Pair}
 use Rattle.fitted.specs.Meanings.{Meaning, meaning_of}
-use Rattle.cabinets.specs.declared.seat.Seat.{Seat}
-use Rattle.cabinets.specs.declared.seat.Seat.TheVariants.{First, Second}
+use Rattle.fitted.specs.declared.fitting.Card.{Card}
+use Rattle.cabinets.specs.declared.seat.Make.{Make}
+use Rattle.cabinets.specs.declared.seat.Make.TheVariants.{First, Second}
 
 module _ (R S : Rule) where
   abbrev pub is_first : R.State ⊎ S.State → Type 0
@@ -39,7 +40,10 @@ module _ (R S : Rule) where
 abbrev pub makes : {A B : Type 0} → Ghosts A → Ghosts B → Rule
 makes a b = either a.rule b.rule
 
--- what stands in a seat
+-- what stands in a seat: a card over a machine of either make
+abbrev pub Seat : Type 0 → Type 0 → Type 0
+Seat A B = Make (Card A) (Card B)
+
 abbrev pub seated : {A B : Type 0} (a : Ghosts A) (b : Ghosts B) → Seat A B → Meaning (makes a b)
 seated a b (First c) = as_first a.rule b.rule (meaning_of a.rule a.means c)
 seated a b (Second c) = as_second a.rule b.rule (meaning_of b.rule b.means c)

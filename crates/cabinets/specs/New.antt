@@ -10,12 +10,11 @@ use Rattle.fitted.specs.declared.make.NotMade.{NotMade}
 use Rattle.fitted.specs.declared.make.NotMade.TheVariants.{Refused, NoMemory}
 use Rattle.fitted.specs.Makes.{new_meaning}
 use Rattle.cabinets.specs.declared.cabinet.Cabinet.{Cabinet}
-use Rattle.cabinets.specs.declared.make.Make.{Make}
-use Rattle.cabinets.specs.declared.make.Make.TheVariants.{First, Second}
-use Rattle.cabinets.specs.declared.seat.Seat.{Seat}
+use Rattle.cabinets.specs.declared.seat.Make.{Make}
+use Rattle.cabinets.specs.declared.seat.Make.TheVariants.{First, Second}
 use Rattle.cabinets.specs.Cabinets.{group_of}
 use Rattle.cabinets.specs.Groups.{New}
-use Rattle.cabinets.specs.Makes.{makes, seated, cards_of}
+use Rattle.cabinets.specs.Makes.{Seat, makes, seated, cards_of}
 
 -- three, five or seven
 abbrev pub group_size : ℕ → Option ℕ

@@ -11,5 +11,4 @@ mod seat;
 
 pub use answer::{Answer, Listed, Ran};
 pub use cabinet::Cabinet;
-pub use make::Make;
-pub use seat::Seat;
+pub use seat::{Make, Seat};

@@ -1,39 +1,14 @@
 // A new cabinet.
 ghost use Rattle.std.specs.Prelude.{◌≡◌, ◌≤◌, true, vec_len};
 ghost use Rattle.card.specs.Groups.{is_group};
-ghost use Rattle.cabinets.specs.New.{MadeSeat, MadeSeats, group_size, MadeCabinet};
+ghost use Rattle.cabinets.specs.New.{MadeSeats, group_size, MadeCabinet};
 
 use crate::cabinet::Cabinet;
-use crate::seat::Seat;
+use crate::seat::{Make, Seat};
 use card::Refusal;
-use fitted::{Card, NotMade};
+use fitted::NotMade;
 use machine::Plain;
 use std::alloc::Global;
-
-// A machine of the one make or of the other.
-#[derive(Drop)]
-pub enum Make<A, B> {
-    First(A),
-    Second(B),
-}
-
-impl<A: Plain + Drop, B: Plain + Drop> Seat<A, B> {
-    // A card in `seat` of a new group of n, over the machine handed to it.
-    pub fn make(heap: Global, n: u32, seat: u32, machine: Make<A, B>) -> Result<Seat<A, B>, NotMade>
-        ensures { MadeSeat A.Machine B.Machine n seat machine result }
-    {
-        match machine {
-            Make::First(machine) => match Card::make(heap, n, seat, machine) {
-                Ok(card) => Ok(Seat::First(card)),
-                Err(why) => Err(why),
-            },
-            Make::Second(machine) => match Card::make(heap, n, seat, machine) {
-                Ok(card) => Ok(Seat::Second(card)),
-                Err(why) => Err(why),
-            },
-        }
-    }
-}
 
 // A card for each machine, in the order of the seats.
 fn fit_all<A: Plain + Drop, B: Plain + Drop>(
@@ -45,16 +20,10 @@ fn fit_all<A: Plain + Drop, B: Plain + Drop>(
     requires seats { vec_len machines ≤ n }
     ensures { MadeSeats A.Machine B.Machine n machines.items result }
 {
-    let Ok(mut seats) = Vec::with_capacity(heap, machines.len()) else {
-        return Err(NotMade::NoMemory);
-    };
-    let mut seat = 0;
+    let mut seats = Vec::with_capacity(heap, machines.len())?;
     for machine in machines {
-        match Seat::make(heap, n, seat, machine) {
-            Ok(card) => seats.push_reserved(card),
-            Err(why) => return Err(why),
-        }
-        seat += 1;
+        let seat = seats.len() as u32;
+        seats.push_reserved(Seat::make(heap, n, seat, machine)?);
     }
     Ok(seats)
 }
@@ -76,12 +45,8 @@ impl<A: Plain + Drop, B: Plain + Drop> Cabinet<A, B> {
     pub fn make(heap: Global, machines: Vec<Make<A, B>>) -> Result<Cabinet<A, B>, NotMade>
         ensures { MadeCabinet A.Machine B.Machine machines.items result }
     {
-        let Some(n) = group_of(machines.len()) else {
-            return Err(NotMade::Refused(Refusal::NoSuchGroup));
-        };
-        match fit_all(heap, n, machines) {
-            Ok(seats) => Ok(Cabinet::new(heap, seats)),
-            Err(why) => Err(why),
-        }
+        let n = group_of(machines.len()).ok_or(Refusal::NoSuchGroup)?;
+        let seats = fit_all(heap, n, machines)?;
+        Ok(Cabinet::new(heap, seats))
     }
 }

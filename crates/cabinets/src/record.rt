@@ -1,5 +1,6 @@
 // What a cabinet has on record.
-ghost use Rattle.std.specs.Prelude.{◌≡◌, ◌++◌, IfOk};
+ghost use Rattle.std.specs.Prelude.{◌≡◌, map, filter, ◌==◌, IfOk};
+ghost use Rattle.cabinets.specs.declared.answer.Ran.{Ran};
 ghost use Rattle.cabinets.specs.Promises.{list_in};
 
 use crate::answer::{Listed, Ran};
@@ -10,15 +11,12 @@ use std::alloc::{AllocError, Global};
 
 // The list of the card in a seat.
 fn list_in(heap: Global, ran: &[Ran], seat: usize) -> Result<Vec<Listed>, AllocError>
-    ensures { IfOk result (λ v. v.items ≡ list_in seat ran.now) }
+    ensures { IfOk result (λ v. v.items ≡ map (λ (one : Ran). one.listed) (filter (λ (one : Ran). one.seat == seat) ran.now)) }
 {
-    let mut list = Vec::new(heap);
-    for one in ran {
-        if one.seat == seat {
-            list.push(one.listed)?;
-        }
-    }
-    Ok(list)
+    ran.iter()
+        .filter(|one| one.seat == seat)
+        .map(|one| one.listed)
+        .collect(heap)
 }
 
 impl<A, B> Cabinet<A, B> {

@@ -1,6 +1,6 @@
 use Rattle.std.proofs.Common.{ap, ◌∙◌}
 use Rattle.fitted.specs.Meanings.{meaning_of}
-use Rattle.cabinets.specs.declared.seat.Seat.TheVariants.{First, Second}
+use Rattle.cabinets.specs.declared.seat.Make.TheVariants.{First, Second}
 use Rattle.cabinets.specs.Makes.{makes, seated}
 use Rattle.cabinets.proofs.Seating.{first_make, second_make, carried, carried_after, carried_answer, performed, passed_by}
 use Rattle.cabinets.proofs.calling.on_seat.Goals as goal
