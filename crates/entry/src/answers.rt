@@ -33,8 +33,9 @@ pub struct Tally {
 fn is_enough(answers: &[Option<Answer>; 7], n: u32, dependency: u32) -> bool
     ensures { result ≡ is_enough answers.now n dependency }
 {
-    let within = answers.iter().filter(|answer| answer.is_some_and(|answer| answer.dependency()
-        <= dependency));
+    let within = answers
+        .iter()
+        .filter(|a| a.is_some_and(|a| a.dependency() <= dependency));
     within.count() >= majority(n)
 }
 
