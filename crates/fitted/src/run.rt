@@ -60,6 +60,7 @@ pub enum Run {
 }
 
 impl Run {
+    // A method and no `From`, since it forgets what the answer holds.
     pub fn number(self) -> u32
         ensures { result ≡ run_number self }
     {
