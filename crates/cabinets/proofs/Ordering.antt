@@ -57,8 +57,7 @@ module _ (R : Rule) (m : Meaning R) where
   passing_orders p (value.Command c) = running_orders p c (known m.kept c.identity) (full m.kept) refl refl
 
   by_next : (n : Next) → (ran_by R m n).0.replica ≡ m.replica
-  by_next (next.Pilot v) = passing_orders _ v
-  by_next (next.Copilot v) = passing_orders _ v
+  by_next (next.Passes log v) = passing_orders _ v
   by_next (next.Waits e) = refl
 
   pub ran_orders : (ran R m).0.replica ≡ m.replica

@@ -18,6 +18,7 @@ use Rattle.machine.specs.Rules.{Rule, run}
 use Rattle.card.specs.declared.replica.Replica.{Replica}
 use Rattle.card.specs.Tables.{absent, log_of}
 use Rattle.fitted.specs.declared.fitting.Passed.{Passed}
+use Rattle.fitted.specs.declared.run.Log.TheVariants as log
 use Rattle.fitted.specs.declared.run.Next.{Next}
 use Rattle.fitted.specs.declared.run.Next.TheVariants as next
 use Rattle.fitted.specs.declared.run.Run.{Run}
@@ -190,9 +191,9 @@ module _ (R : Rule) (C : Keeps) (m : Meaning R) (x : R.State) (list : List Liste
     -- by the four tests of the rule
     abbrev chosen : Bool → Bool → Bool → Bool → Next
     chosen x_done x_ready y_done y_ready =
-        cond (x_done && x_ready) (next.Pilot e.value)
-        (cond (y_done && y_ready) (next.Copilot f.value)
-        (cond (x_done && y_done) (next.Pilot e.value) (next.Waits (awaited m.passed e f))))
+        cond (x_done && x_ready) (next.Passes log.Pilot e.value)
+        (cond (y_done && y_ready) (next.Passes log.Copilot f.value)
+        (cond (x_done && y_done) (next.Passes log.Pilot e.value) (next.Waits (awaited m.passed e f))))
 
     by_tests : (x_done x_ready y_done y_ready : Bool) → is_committed e.state ≡ x_done → ready_by e.value e.dependency b ≡ x_ready
         → is_committed f.state ≡ y_done → ready_by f.value f.dependency a ≡ y_ready

@@ -62,8 +62,7 @@ module _ {R S : Rule} (a : OneRule R S) where
     carried_passing p (value.Command c) = carried_running p c
 
     carried_by_lem : (n : Next) → both (ran_by R m n) ≡ ran_by S (carried m) n
-    carried_by_lem (next.Pilot v) = carried_passing _ v
-    carried_by_lem (next.Copilot v) = carried_passing _ v
+    carried_by_lem (next.Passes log v) = carried_passing _ v
     carried_by_lem (next.Waits e) = refl
 
     carried_ran : both (ran R m) ≡ ran S (carried m)

@@ -48,6 +48,7 @@ fn on_seat<A: Plain, B: Plain>(seats: &mut [Seat<A, B>], sent: &[Message], call:
     ensures answer { result ≡ answered (makes A.Machine B.Machine) (cards_of A.Machine B.Machine seats.old) sent.now call }
 {
     let seat = call.seat();
+    // By its place, not by `get_mut`: that does not promise what the slice holds once the loan is over.
     if seat >= seats.len() {
         return Answer::NoSuchSeat;
     }

@@ -21,6 +21,7 @@ fn fit_all<A: Plain + Drop, B: Plain + Drop>(
     ensures { MadeSeats A.Machine B.Machine n machines.items result }
 {
     let mut seats = Vec::with_capacity(heap, machines.len())?;
+    // No `map` with `collect`: each card is told how many are seated before it.
     for machine in machines {
         let seat = seats.len() as u32;
         seats.push_reserved(Seat::make(heap, n, seat, machine)?);
@@ -28,7 +29,7 @@ fn fit_all<A: Plain + Drop, B: Plain + Drop>(
     Ok(seats)
 }
 
-// How many cards a group has for so many machines.
+// How many cards a group has for so many machines: each size by its own line, as the rules list them.
 fn group_of(machines: usize) -> Option<u32>
     ensures { result ≡ group_size machines }
 {

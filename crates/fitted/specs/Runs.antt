@@ -6,6 +6,8 @@ use Rattle.block.specs.declared.message.Value.TheVariants as value
 use Rattle.machine.specs.Onces.{known, full}
 use Rattle.machine.specs.Rules.{Rule}
 use Rattle.fitted.specs.declared.fitting.Passed.{Passed}
+use Rattle.fitted.specs.declared.run.Log.{Log}
+use Rattle.fitted.specs.declared.run.Log.TheVariants.{Pilot, Copilot}
 use Rattle.fitted.specs.declared.run.Next.{Next}
 use Rattle.fitted.specs.declared.run.Next.TheVariants as next
 use Rattle.fitted.specs.declared.run.Place.{Place}
@@ -33,6 +35,10 @@ past_pilot p = record { pilot = p.pilot + 1; copilot = p.copilot }
 abbrev pub past_copilot : Passed → Passed
 past_copilot p = record { pilot = p.pilot; copilot = p.copilot + 1 }
 
+abbrev pub past_in : Log → Passed → Passed
+past_in Pilot = past_pilot
+past_in Copilot = past_copilot
+
 -- nothing but the positions moves
 abbrev pub past : {R : Rule} → Meaning R → Passed → Meaning R
 past m p = record { replica = m.replica; passed = p; state = m.state; kept = m.kept }
@@ -54,8 +60,7 @@ passing R m p value.Noop = (past m p, Noop)
 passing R m p (value.Command c) = running R m p c
 
 abbrev pub ran_by : (R : Rule) → Meaning R → Next → Meaning R × Run
-ran_by R m (next.Pilot v) = passing R m (past_pilot m.passed) v
-ran_by R m (next.Copilot v) = passing R m (past_copilot m.passed) v
+ran_by R m (next.Passes log v) = passing R m (past_in log m.passed) v
 ran_by R m (next.Waits e) = (m, Waits e)
 
 -- past one entry, if one may be passed

@@ -9,4 +9,4 @@ mod running;
 
 pub use crate::fitting::{Card, Passed};
 pub use make::NotMade;
-pub use run::{Next, Place, Run};
+pub use run::{Log, Next, Place, Run};

@@ -1,10 +1,26 @@
 // What run answers, and which entry it passes.
 ghost use Rattle.std.specs.Prelude.{◌≡◌};
+ghost use Rattle.fitted.specs.Nexts.{log_number};
 ghost use Rattle.fitted.specs.Runs.{run_number, place_numbers};
 
 use block::Value;
 use command::Command;
 use machine::Outcome;
+
+// One of the two logs, by its number.
+#[derive(Clone, Copy, PartialEq, Eq, Debug)]
+pub enum Log {
+    Pilot = 0,
+    Copilot = 1,
+}
+
+impl From<Log> for u32 {
+    ghost from_gives = { λ log number. number ≡ log_number log };
+
+    fn from(log: Log) -> u32 {
+        log as u32
+    }
+}
 
 // An entry of a log: 0.5 is entry 5 of log 0.
 #[derive(Clone, Copy, PartialEq, Eq, Debug)]
@@ -44,6 +60,7 @@ pub enum Run {
 }
 
 impl Run {
+    // A method and no `From`, since it forgets what the answer holds.
     pub fn number(self) -> u32
         ensures { result ≡ run_number self }
     {
@@ -57,10 +74,9 @@ impl Run {
     }
 }
 
-// What is passed next: an entry of the pilot's log or of the copilot's, with its value; or what is waited for.
+// What is passed next: an entry of a log, with its value; or what is waited for.
 #[derive(Clone, Copy)]
 pub enum Next {
-    Pilot(Value),
-    Copilot(Value),
+    Passes(Log, Value),
     Waits(Option<Place>),
 }

@@ -1,13 +1,13 @@
 // A card runs what was agreed, one entry at a time.
-ghost use Rattle.std.specs.Prelude.{◌≡◌, ◌<◌, ◌≤◌, true};
+ghost use Rattle.std.specs.Prelude.{◌≡◌, ◌<◌, true};
 ghost use Rattle.entry.specs.Entries.{is_committed};
 ghost use Rattle.fitted.specs.declared.run.Next.TheVariants as next;
 ghost use Rattle.fitted.specs.Meanings.{meaning_of};
-ghost use Rattle.fitted.specs.Nexts.{ahead, is_ready, awaited, next as next_of};
-ghost use Rattle.fitted.specs.Runs.{past_pilot, past_copilot, running, passing, ran};
+ghost use Rattle.fitted.specs.Nexts.{log_number, last_in, ahead, is_ready, awaited_in, awaited, next as next_of};
+ghost use Rattle.fitted.specs.Runs.{past_in, running, passing, ran};
 
 use crate::fitting::{Card, Passed};
-use crate::run::{Next, Place, Run};
+use crate::run::{Log, Next, Place, Run};
 use block::Value;
 use card::Replica;
 use command::Command;
@@ -16,16 +16,46 @@ use machine::{Machine, Outcome, Plain};
 
 const LAST: u32 = 128;
 
+impl Passed {
+    // The last entry passed of a log, 0 for none.
+    fn last(self, log: Log) -> u32
+        ensures { result ≡ last_in log self }
+    {
+        match log {
+            Log::Pilot => self.pilot,
+            Log::Copilot => self.copilot,
+        }
+    }
+
+    // One entry further in a log.
+    fn past(self, log: Log) -> Passed
+        requires { last_in log self < 128 }
+        ensures { result ≡ past_in log self }
+    {
+        let entry = self.last(log) + 1;
+        match log {
+            Log::Pilot => Passed {
+                pilot: entry,
+                ..self
+            },
+            Log::Copilot => Passed {
+                copilot: entry,
+                ..self
+            },
+        }
+    }
+}
+
 // The entry of a log after the last one passed. Past the end of the log there is none, and none is ever committed there.
-fn ahead(replica: &Replica, log: u32, passed: u32) -> Entry
-    requires { log ≤ 1 }
-    ensures value { result ≡ ahead replica.now log passed }
-    ensures room { is_committed result.state ≡ true → passed < 128 }
+fn ahead(replica: &Replica, log: Log, passed: Passed) -> Entry
+    ensures value { result ≡ ahead replica.now (log_number log) (last_in log passed) }
+    ensures room { is_committed result.state ≡ true → last_in log passed < 128 }
 {
-    if passed >= LAST {
+    let last = passed.last(log);
+    if last >= LAST {
         return Entry::empty();
     }
-    replica.logs[log as usize][passed as usize]
+    replica.logs[log as usize][last as usize]
 }
 
 // Committed, and nothing that it depends on is still ahead in the other log.
@@ -39,63 +69,45 @@ fn is_ready(entry: &Entry, other: u32) -> bool
         }
 }
 
-// The uncommitted entry that is waited for, the pilot's before the copilot's.
-fn awaited(passed: Passed, pilot: &Entry, copilot: &Entry) -> Option<Place>
-    ensures { result ≡ awaited passed pilot.now copilot.now }
+// The next entry of a log, if it is there and not committed yet.
+fn awaited_in(log: Log, passed: Passed, next: &Entry) -> Option<Place>
+    ensures { result ≡ awaited_in log passed next.now }
 {
-    if passed.pilot < LAST && !pilot.is_committed() {
+    let last = passed.last(log);
+    if last < LAST && !next.is_committed() {
+        let log = u32::from(log);
         Some(Place {
-            log: 0,
-            entry: passed.pilot + 1,
-        })
-    } else if passed.copilot < LAST && !copilot.is_committed() {
-        Some(Place {
-            log: 1,
-            entry: passed.copilot + 1,
+            log,
+            entry: last + 1,
         })
     } else {
         None
     }
 }
 
+// The uncommitted entry that is waited for, the pilot's before the copilot's.
+fn awaited(passed: Passed, pilot: &Entry, copilot: &Entry) -> Option<Place>
+    ensures { result ≡ awaited passed pilot.now copilot.now }
+{
+    awaited_in(Log::Pilot, passed, pilot).or(awaited_in(Log::Copilot, passed, copilot))
+}
+
 // What is passed next: an entry that is ready, the pilot's before the copilot's; the pilot's where both are committed and each
 // waits for the other. What is passed stands in its log, so the position there can rise by one.
 fn next(replica: &Replica, passed: Passed) -> Next
     ensures value { result ≡ next_of replica.now passed }
-    ensures room { elim result [ next.Pilot v ↦ passed.pilot < 128 | next.Copilot v ↦ passed.copilot < 128 | next.Waits e ↦ Unit {0} ] }
+    ensures room { elim result [ next.Passes log v ↦ last_in log passed < 128 | next.Waits e ↦ Unit {0} ] }
 {
-    let pilot = ahead(replica, 0, passed.pilot);
-    let copilot = ahead(replica, 1, passed.copilot);
+    let pilot = ahead(replica, Log::Pilot, passed);
+    let copilot = ahead(replica, Log::Copilot, passed);
     if is_ready(&pilot, passed.copilot) {
-        Next::Pilot(pilot.value)
+        Next::Passes(Log::Pilot, pilot.value)
     } else if is_ready(&copilot, passed.pilot) {
-        Next::Copilot(copilot.value)
+        Next::Passes(Log::Copilot, copilot.value)
     } else if pilot.is_committed() && copilot.is_committed() {
-        Next::Pilot(pilot.value)
+        Next::Passes(Log::Pilot, pilot.value)
     } else {
         Next::Waits(awaited(passed, &pilot, &copilot))
-    }
-}
-
-impl Passed {
-    fn past_pilot(self) -> Passed
-        requires { self.pilot < 128 }
-        ensures { result ≡ past_pilot self }
-    {
-        Passed {
-            pilot: self.pilot + 1,
-            ..self
-        }
-    }
-
-    fn past_copilot(self) -> Passed
-        requires { self.copilot < 128 }
-        ensures { result ≡ past_copilot self }
-    {
-        Passed {
-            copilot: self.copilot + 1,
-            ..self
-        }
     }
 }
 
@@ -140,8 +152,7 @@ impl<M: Plain> Card<M> {
         ensures answer { result ≡ (ran M.Machine.rule (meaning_of M.Machine.rule M.Machine.means self.old)).1 }
     {
         match next(&self.replica, self.passed) {
-            Next::Pilot(value) => self.pass(self.passed.past_pilot(), value),
-            Next::Copilot(value) => self.pass(self.passed.past_copilot(), value),
+            Next::Passes(log, value) => self.pass(self.passed.past(log), value),
             Next::Waits(place) => Run::Waits(place),
         }
     }
