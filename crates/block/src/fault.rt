@@ -11,7 +11,7 @@ pub enum Fault {
 }
 
 impl Fault {
-    // The number of the refusal.
+    // The number of the refusal. A method and no `From`, since it forgets the word.
     pub fn number(self) -> u32
         ensures { result ≡ (numbered self).0 }
     {

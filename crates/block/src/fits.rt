@@ -93,7 +93,7 @@ pub(crate) fn word_fits(words: &[u32; 15], place: usize) -> bool
     }
 }
 
-// Refuses the lowest word that does not fit the words below it.
+// Refuses the lowest word that does not fit the words below it. By place, since a word is judged with those below it.
 pub(crate) fn check_fits(words: &[u32; 15]) -> Result<(), Fault>
     ensures { result ≡ unless_fault (misfit_fault words.now) tt }
 {

@@ -47,7 +47,7 @@ impl Kind {
     }
 }
 
-// Where a message goes.
+// Where a message goes. No `Option`: all is a destination too, and not the want of one.
 #[derive(Clone, Copy, PartialEq, Eq, Debug)]
 pub enum Destination {
     All,
@@ -66,6 +66,7 @@ impl Destination {
         }
     }
 
+    // No `From`: 256 and 255 are one seat and all, so a word and a destination do not stand for each other.
     pub(crate) fn of_word(word: u32) -> Destination
         ensures { result ≡ to_of word }
     {
@@ -77,7 +78,8 @@ impl Destination {
     }
 }
 
-// What an entry holds.
+// What an entry holds. Nothing is a kind of value in a block, and what is done with it is mostly what is done with a no-op, so an `Option`
+// around the other two would split each such arm.
 #[derive(Clone, Copy, PartialEq, Eq, Debug)]
 pub enum Value {
     Nothing,
@@ -86,7 +88,7 @@ pub enum Value {
 }
 
 impl Value {
-    // The number that stands for the value's kind in a block.
+    // The number that stands for the value's kind in a block. A method and no `From`, since it forgets the command.
     pub fn number(self) -> u32
         ensures { result ≡ value_number self }
     {
@@ -118,7 +120,8 @@ impl Value {
     }
 }
 
-// What a card reports of an entry that is taken over: nothing, its vote, or what it accepted at the ballot given.
+// What a card reports of an entry that is taken over: nothing, its vote, or what it accepted at the ballot given. No `Option`: a card that
+// reports nothing has reported, and `None` stands for one that has not.
 #[derive(Clone, Copy, PartialEq, Eq, Debug)]
 pub enum Report {
     Empty,
@@ -127,7 +130,7 @@ pub enum Report {
 }
 
 impl Report {
-    // The number that stands for the report in a block.
+    // The number that stands for the report in a block. A method and no `From`, since it forgets the ballot.
     pub fn number(self) -> u32
         ensures { result ≡ report_number self }
     {
@@ -174,6 +177,7 @@ pub struct Message {
 }
 
 impl Message {
+    // Methods and no `From`, which could not be kept inside this crate: of words that were not checked this gives some message.
     pub(crate) fn words(&self) -> [u32; 15]
         ensures { result ≡ message_words self.now }
     {

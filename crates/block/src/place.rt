@@ -1,4 +1,4 @@
-// Where each word stands in a block.
+// Where each word stands in a block. Constants and no enum: they index the words, and a `Fault` names one place more.
 pub(crate) const KIND: usize = 0;
 
 pub(crate) const FROM: usize = 1;

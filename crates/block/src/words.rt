@@ -27,7 +27,7 @@ fn put_word(block: &mut [u8; 512], place: usize, word: u32)
     block[at..at + 4].copy_from_slice(&word.to_be_bytes());
 }
 
-// The block of the words: their bytes, and zeros after them.
+// The block of the words: their bytes, and zeros after them. Not by `chunks_exact_mut`: what is written through it is not told of the block.
 pub(crate) fn block_of(words: &[u32; 15]) -> [u8; 512]
     ensures value { result ≡ block_of words.now }
     ensures reads_back { words_of result ≡ words.now }

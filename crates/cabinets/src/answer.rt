@@ -9,7 +9,7 @@ use fitted::Run;
 use group::Call;
 use machine::Outcome;
 
-#[derive(Clone, Copy)]
+#[derive(Clone, Copy, PartialEq, Eq, Debug)]
 pub enum Answer {
     // of a propose, deliver, settle or takeover
     Ordered(Result<Option<Message>, Refusal>),
@@ -19,7 +19,7 @@ pub enum Answer {
 }
 
 // What stands in a card's list: a command that ran, and the pair that the machine answered, the outcome and the value before.
-#[derive(Clone, Copy, PartialEq, Eq)]
+#[derive(Clone, Copy, PartialEq, Eq, Debug)]
 pub struct Listed {
     pub command: Command,
     pub outcome: Outcome,
@@ -27,7 +27,7 @@ pub struct Listed {
 }
 
 // What ran, and on the card of which seat.
-#[derive(Clone, Copy)]
+#[derive(Clone, Copy, PartialEq, Eq, Debug)]
 pub struct Ran {
     pub seat: usize,
     pub listed: Listed,

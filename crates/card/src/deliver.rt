@@ -4,7 +4,6 @@ ghost use Rattle.card.specs.Steps.{state_after, answer_of};
 ghost use Rattle.card.specs.Delivering.{answers, stores, hears, acknowledges_owner, acknowledges_takeover, reports, turn, deliver};
 
 use crate::delivered::Delivered;
-use crate::messages::{accept_ok, announce, commit, fast_answer, prepare_ok, reject};
 use crate::place::Place;
 use crate::refusal::Refusal;
 use crate::replica::Replica;
@@ -24,7 +23,7 @@ impl Replica {
             held.answer(m.value, m.dependency, m.dependency, true)
         };
         self.change(at, held);
-        Some(fast_answer(self.seat, m.from, at, &held))
+        Some(self.fast_answer(m.from, at, &held))
     }
 
     // Stores an entry that was counted on, and tells all what it came to.
@@ -32,7 +31,7 @@ impl Replica {
         ensures { (self.new, result) ≡ stores self.old at.log at.entry (held, progress) }
     {
         self.change(at, held);
-        announce(self.seat, at, &held, progress)
+        self.announce(at, &held, progress)
     }
 
     // An answer to this card's own proposal.
@@ -95,19 +94,14 @@ impl Replica {
         let at = d.place();
         let held = self.entry(at);
         match (held.state, m.kind) {
-            (State::Committed, Kind::FastAccept | Kind::Accept | Kind::Prepare) => Ok(Some(commit(
-                self.seat,
-                Destination::Seat(m.from),
-                at,
-                &held,
-            ))),
+            (State::Committed, Kind::FastAccept | Kind::Accept | Kind::Prepare) => Ok(Some(
+                self.commit(Destination::Seat(m.from), at, &held),
+            )),
             (_, Kind::FastAccept) if held.promised > 0 => {
-                Ok(Some(reject(self.seat, m.from, at, &held)))
+                Ok(Some(self.reject(m.from, at, &held)))
             }
             (State::Empty, Kind::FastAccept) => Ok(self.answer(d, held)),
-            (State::Answered, Kind::FastAccept) => Ok(Some(fast_answer(
-                self.seat, m.from, at, &held,
-            ))),
+            (State::Answered, Kind::FastAccept) => Ok(Some(self.fast_answer(m.from, at, &held))),
             (State::Answered, Kind::FastAcceptOk) => {
                 Ok(self.hear_answer(d, held, Answer::Vote(held.dependency)))
             }
@@ -115,11 +109,11 @@ impl Replica {
                 Ok(self.hear_answer(d, held, Answer::Reply(m.dependency)))
             }
             (_, Kind::Accept) if m.ballot < held.promised => {
-                Ok(Some(reject(self.seat, m.from, at, &held)))
+                Ok(Some(self.reject(m.from, at, &held)))
             }
             (_, Kind::Accept) => {
                 self.change(at, held.accept(m.ballot, m.value, m.dependency));
-                Ok(Some(accept_ok(self.seat, m.from, at, m.ballot)))
+                Ok(Some(self.accept_ok(m.from, at, m.ballot)))
             }
             (State::Accepted, Kind::AcceptOk) if m.ballot == 0 => {
                 Ok(self.hear_owner_accept(d, held))
@@ -139,11 +133,11 @@ impl Replica {
                 Ok(None)
             }
             (_, Kind::Prepare) if m.ballot <= held.promised => {
-                Ok(Some(reject(self.seat, m.from, at, &held)))
+                Ok(Some(self.reject(m.from, at, &held)))
             }
             (_, Kind::Prepare) => {
                 self.change(at, held.promise(m.ballot));
-                Ok(Some(prepare_ok(self.seat, m.from, at, m.ballot, held.report())))
+                Ok(Some(self.prepare_ok(m.from, at, m.ballot, held.report())))
             }
             (State::Empty | State::Answered | State::Accepted, Kind::PrepareOk) => {
                 Ok(self.hear_report(d, held))

@@ -11,7 +11,7 @@ use entry::Entry;
 fn is_group(n: u32, seat: u32) -> bool
     ensures { result ≡ is_group n seat }
 {
-    (n == 3 || n == 5 || n == 7) && seat < n
+    matches!(n, 3 | 5 | 7) && seat < n
 }
 
 // Two logs of empty entries.

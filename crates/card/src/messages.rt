@@ -3,117 +3,120 @@ ghost use Rattle.std.specs.Prelude.{◌≡◌};
 ghost use Rattle.card.specs.Messages.{bare, fast_accept_message, fast_answer, accept, accept_ok_message, commit, prepare, prepare_ok_message, reject, announced};
 
 use crate::place::Place;
+use crate::replica::Replica;
 use block::{Destination, Kind, Message, Report, Value};
 use entry::{Entry, Progress, Reported};
 
-// A message with nothing but its kind, its ends and its entry.
-fn bare(kind: Kind, from: u32, to: Destination, at: Place) -> Message
-    ensures { result ≡ bare kind from to at.log at.entry }
-{
-    Message {
-        kind,
-        from,
-        to,
-        log: at.log,
-        entry: at.entry,
-        ballot: 0,
-        value: Value::Nothing,
-        dependency: 0,
-        report: Report::Empty,
-    }
-}
-
-pub(crate) fn fast_accept(from: u32, at: Place, held: &Entry) -> Message
-    ensures { result ≡ fast_accept_message from at.log at.entry held.now }
-{
-    Message {
-        value: held.value,
-        dependency: held.dependency,
-        ..bare(Kind::FastAccept, from, Destination::All, at)
-    }
-}
-
-// This card's answer to a proposal, as it gave it the first time.
-pub(crate) fn fast_answer(from: u32, to: u32, at: Place, held: &Entry) -> Message
-    ensures { result ≡ fast_answer from to at.log at.entry held.now }
-{
-    if held.vote {
-        bare(Kind::FastAcceptOk, from, Destination::Seat(to), at)
-    } else {
+impl Replica {
+    // A message with nothing but its kind, its ends and its entry.
+    fn bare(&self, kind: Kind, to: Destination, at: Place) -> Message
+        ensures { result ≡ bare kind self.now.seat to at.log at.entry }
+    {
         Message {
-            dependency: held.answered,
-            ..bare(Kind::FastAcceptReply, from, Destination::Seat(to), at)
+            kind,
+            from: self.seat,
+            to,
+            log: at.log,
+            entry: at.entry,
+            ballot: 0,
+            value: Value::Nothing,
+            dependency: 0,
+            report: Report::Empty,
         }
     }
-}
 
-fn accept(from: u32, at: Place, held: &Entry) -> Message
-    ensures { result ≡ accept from at.log at.entry held.now }
-{
-    Message {
-        ballot: held.accept_ballot,
-        value: held.value,
-        dependency: held.dependency,
-        ..bare(Kind::Accept, from, Destination::All, at)
+    pub(crate) fn fast_accept(&self, at: Place, held: &Entry) -> Message
+        ensures { result ≡ fast_accept_message self.now.seat at.log at.entry held.now }
+    {
+        Message {
+            value: held.value,
+            dependency: held.dependency,
+            ..self.bare(Kind::FastAccept, Destination::All, at)
+        }
     }
-}
 
-pub(crate) fn accept_ok(from: u32, to: u32, at: Place, ballot: u32) -> Message
-    ensures { result ≡ accept_ok_message from to at.log at.entry ballot }
-{
-    Message {
-        ballot,
-        ..bare(Kind::AcceptOk, from, Destination::Seat(to), at)
+    // This card's answer to a proposal, as it gave it the first time.
+    pub(crate) fn fast_answer(&self, to: u32, at: Place, held: &Entry) -> Message
+        ensures { result ≡ fast_answer self.now.seat to at.log at.entry held.now }
+    {
+        if held.vote {
+            self.bare(Kind::FastAcceptOk, Destination::Seat(to), at)
+        } else {
+            Message {
+                dependency: held.answered,
+                ..self.bare(Kind::FastAcceptReply, Destination::Seat(to), at)
+            }
+        }
     }
-}
 
-pub(crate) fn commit(from: u32, to: Destination, at: Place, held: &Entry) -> Message
-    ensures { result ≡ commit from to at.log at.entry held.now }
-{
-    Message {
-        value: held.value,
-        dependency: held.dependency,
-        ..bare(Kind::Commit, from, to, at)
+    fn accept(&self, at: Place, held: &Entry) -> Message
+        ensures { result ≡ accept self.now.seat at.log at.entry held.now }
+    {
+        Message {
+            ballot: held.accept_ballot,
+            value: held.value,
+            dependency: held.dependency,
+            ..self.bare(Kind::Accept, Destination::All, at)
+        }
     }
-}
 
-pub(crate) fn prepare(from: u32, at: Place, ballot: u32) -> Message
-    ensures { result ≡ prepare from at.log at.entry ballot }
-{
-    Message {
-        ballot,
-        ..bare(Kind::Prepare, from, Destination::All, at)
+    pub(crate) fn accept_ok(&self, to: u32, at: Place, ballot: u32) -> Message
+        ensures { result ≡ accept_ok_message self.now.seat to at.log at.entry ballot }
+    {
+        Message {
+            ballot,
+            ..self.bare(Kind::AcceptOk, Destination::Seat(to), at)
+        }
     }
-}
 
-pub(crate) fn prepare_ok(from: u32, to: u32, at: Place, ballot: u32, own: Reported) -> Message
-    ensures { result ≡ prepare_ok_message from to at.log at.entry ballot own }
-{
-    Message {
-        ballot,
-        value: own.value,
-        dependency: own.dependency,
-        report: own.report,
-        ..bare(Kind::PrepareOk, from, Destination::Seat(to), at)
+    pub(crate) fn commit(&self, to: Destination, at: Place, held: &Entry) -> Message
+        ensures { result ≡ commit self.now.seat to at.log at.entry held.now }
+    {
+        Message {
+            value: held.value,
+            dependency: held.dependency,
+            ..self.bare(Kind::Commit, to, at)
+        }
     }
-}
 
-pub(crate) fn reject(from: u32, to: u32, at: Place, held: &Entry) -> Message
-    ensures { result ≡ reject from to at.log at.entry held.now }
-{
-    Message {
-        ballot: held.promised,
-        ..bare(Kind::Reject, from, Destination::Seat(to), at)
+    pub(crate) fn prepare(&self, at: Place, ballot: u32) -> Message
+        ensures { result ≡ prepare self.now.seat at.log at.entry ballot }
+    {
+        Message {
+            ballot,
+            ..self.bare(Kind::Prepare, Destination::All, at)
+        }
     }
-}
 
-// What all are told once an entry is accepted or committed here.
-pub(crate) fn announce(from: u32, at: Place, held: &Entry, progress: Progress) -> Option<Message>
-    ensures { result ≡ announced from at.log at.entry held.now progress }
-{
-    match progress {
-        Progress::Waits => None,
-        Progress::Accepts => Some(accept(from, at, held)),
-        Progress::Commits => Some(commit(from, Destination::All, at, held)),
+    pub(crate) fn prepare_ok(&self, to: u32, at: Place, ballot: u32, own: Reported) -> Message
+        ensures { result ≡ prepare_ok_message self.now.seat to at.log at.entry ballot own }
+    {
+        Message {
+            ballot,
+            value: own.value,
+            dependency: own.dependency,
+            report: own.report,
+            ..self.bare(Kind::PrepareOk, Destination::Seat(to), at)
+        }
+    }
+
+    pub(crate) fn reject(&self, to: u32, at: Place, held: &Entry) -> Message
+        ensures { result ≡ reject self.now.seat to at.log at.entry held.now }
+    {
+        Message {
+            ballot: held.promised,
+            ..self.bare(Kind::Reject, Destination::Seat(to), at)
+        }
+    }
+
+    // What all are told once an entry is accepted or committed here.
+    pub(crate) fn announce(&self, at: Place, held: &Entry, progress: Progress) -> Option<Message>
+        ensures { result ≡ announced self.now.seat at.log at.entry held.now progress }
+    {
+        match progress {
+            Progress::Waits => None,
+            Progress::Accepts => Some(self.accept(at, held)),
+            Progress::Commits => Some(self.commit(Destination::All, at, held)),
+        }
     }
 }

@@ -3,7 +3,6 @@ ghost use Rattle.std.specs.Prelude.{◌≡◌};
 ghost use Rattle.card.specs.Steps.{state_after, answer_of};
 ghost use Rattle.card.specs.Proposing.{is_nameless, propose};
 
-use crate::messages::fast_accept;
 use crate::place::Place;
 use crate::refusal::Refusal;
 use crate::replica::Replica;
@@ -42,6 +41,6 @@ impl Replica {
             .entry(at)
             .propose(log, Value::Command(command), dependency);
         self.change(at, held);
-        Ok(Some(fast_accept(log, at, &held)))
+        Ok(Some(self.fast_accept(at, &held)))
     }
 }

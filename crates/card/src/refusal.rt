@@ -5,7 +5,7 @@ ghost use Rattle.card.specs.declared.refusal.Refusal.TheVariants.{Block};
 
 use block::Fault;
 
-#[derive(Clone, Copy)]
+#[derive(Clone, Copy, PartialEq, Eq, Debug)]
 pub enum Refusal {
     // what the reader found wrong with the block
     Block(Fault),
@@ -25,6 +25,7 @@ pub enum Refusal {
 }
 
 impl Refusal {
+    // A method and no `From`, since it forgets the word that a fault names.
     pub fn number(self) -> u32
         ensures { result ≡ refusal_number self }
     {

@@ -3,7 +3,6 @@ ghost use Rattle.std.specs.Prelude.{◌≡◌};
 ghost use Rattle.card.specs.Steps.{state_after, answer_of};
 ghost use Rattle.card.specs.Settling.{settle};
 
-use crate::messages::announce;
 use crate::place::Place;
 use crate::refusal::Refusal;
 use crate::replica::Replica;
@@ -25,6 +24,6 @@ impl Replica {
         }
         let held = held.settle(self.n, self.seat);
         self.change(at, held);
-        Ok(announce(self.seat, at, &held, Progress::Accepts))
+        Ok(self.announce(at, &held, Progress::Accepts))
     }
 }

@@ -3,7 +3,6 @@ ghost use Rattle.std.specs.Prelude.{◌≡◌};
 ghost use Rattle.card.specs.Steps.{state_after, answer_of};
 ghost use Rattle.card.specs.Taking.{is_nothing, takeover};
 
-use crate::messages::prepare;
 use crate::place::Place;
 use crate::refusal::Refusal;
 use crate::replica::Replica;
@@ -36,6 +35,6 @@ impl Replica {
         };
         self.change(at, held.promise(ballot));
         self.set_takeover(Takeover::begin(log, entry, ballot, self.seat, held.report()));
-        Ok(Some(prepare(self.seat, at, ballot)))
+        Ok(Some(self.prepare(at, ballot)))
     }
 }

@@ -22,48 +22,52 @@ impl Answer {
     }
 }
 
-// What an owner knows of its own entry: each seat's first answer, if it was heard, and the seats that accepted at ballot 0.
+// What an owner knows of its own entry: each seat's first answer, if it was heard, and the seats that accepted at ballot 0. Two lists by
+// seat and not one of pairs, since each is counted by itself.
 #[derive(Clone, Copy, PartialEq, Eq, Debug)]
 pub struct Tally {
     pub answers: [Option<Answer>; 7],
     pub accepts: [bool; 7],
 }
 
-// Whether a majority of the answers does not exceed a dependency.
-fn is_enough(answers: &[Option<Answer>; 7], n: u32, dependency: u32) -> bool
-    ensures { result ≡ is_enough answers.now n dependency }
-{
-    let within = answers
-        .iter()
-        .filter(|a| a.is_some_and(|a| a.dependency() <= dependency));
-    within.count() >= majority(n)
-}
-
-// The smaller of two dependencies, if a majority of the answers does not exceed it.
-fn smaller(answers: &[Option<Answer>; 7], n: u32, best: u32, dependency: u32) -> u32
-    ensures { result ≡ smaller_of answers.now n best dependency }
-{
-    if dependency < best && is_enough(answers, n, dependency) {
-        dependency
-    } else {
-        best
+impl Tally {
+    // Whether a majority of the answers does not exceed a dependency.
+    fn is_enough(&self, n: u32, dependency: u32) -> bool
+        ensures { result ≡ is_enough self.now.answers n dependency }
+    {
+        let within = self
+            .answers
+            .iter()
+            .filter(|a| a.is_some_and(|a| a.dependency() <= dependency));
+        within.count() >= majority(n)
     }
-}
 
-fn better(answers: &[Option<Answer>; 7], n: u32, best: u32, answer: Option<Answer>) -> u32
-    ensures { result ≡ better_of answers.now n best answer }
-{
-    match answer {
-        Some(answer) => smaller(answers, n, best, answer.dependency()),
-        None => best,
+    // The smaller of two dependencies, if a majority of the answers does not exceed it.
+    fn smaller(&self, n: u32, best: u32, dependency: u32) -> u32
+        ensures { result ≡ smaller_of self.now.answers n best dependency }
+    {
+        if dependency < best && self.is_enough(n, dependency) {
+            dependency
+        } else {
+            best
+        }
     }
-}
 
-// The smallest answered dependency that a majority of the answers does not exceed. None exceeds 128.
-pub(crate) fn settle(answers: &[Option<Answer>; 7], n: u32) -> u32
-    ensures { result ≡ settled answers.now n }
-{
-    answers
-        .iter()
-        .fold(128, |best, answer| better(answers, n, best, *answer))
+    fn better(&self, n: u32, best: u32, answer: Option<Answer>) -> u32
+        ensures { result ≡ better_of self.now.answers n best answer }
+    {
+        match answer {
+            Some(answer) => self.smaller(n, best, answer.dependency()),
+            None => best,
+        }
+    }
+
+    // The smallest answered dependency that a majority of the answers does not exceed. None exceeds 128.
+    pub(crate) fn settle(&self, n: u32) -> u32
+        ensures { result ≡ settled self.now.answers n }
+    {
+        self.answers
+            .iter()
+            .fold(128, |best, answer| self.better(n, best, *answer))
+    }
 }

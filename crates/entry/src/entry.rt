@@ -24,7 +24,7 @@ impl From<State> for u32 {
 }
 
 // What counting an answer, a report or an AcceptOk led to: nothing yet, or that the entry is accepted here or committed, which
-// all are then told.
+// all are then told. No `Option`: to wait is what a count mostly leads to.
 #[derive(Clone, Copy, PartialEq, Eq, Debug)]
 pub enum Progress {
     Waits,
@@ -40,7 +40,8 @@ pub struct Entry {
     pub accept_ballot: u32,
     pub value: Value,
     pub dependency: u32,
-    // this card's own answer to the proposal, which never changes: the dependency, and whether it was a vote
+    // this card's own answer to the proposal, which never changes: the dependency, and whether it was a vote; not an
+    // `Option<Answer>`, since a look-up shows the two as the protocol lists them, and a scan asks for the dependency whichever it was
     pub answered: u32,
     pub vote: bool,
     // kept by the owner alone

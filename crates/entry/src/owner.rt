@@ -2,12 +2,13 @@
 ghost use Rattle.std.specs.Prelude.{◌≡◌};
 ghost use Rattle.entry.specs.Owners.{proposing, counts_answers, can_settle, has_fast_quorum, has_two_replies, settling, decided, hearing, acknowledging};
 
-use crate::answers::{Answer, settle};
+use crate::answers::Answer;
 use crate::entry::{Entry, Progress, State};
 use crate::quorum::{fast_quorum, majority};
 use crate::seats::with_seat;
 use block::Value;
 
+// `n` and `seat` are no struct of their own: most of these need the size of the group alone.
 impl Entry {
     // The owner's own proposal, which it answers itself with a vote.
     pub fn propose(self, seat: u32, value: Value, dependency: u32) -> Entry
@@ -37,7 +38,7 @@ impl Entry {
     pub fn settle(self, n: u32, seat: u32) -> Entry
         ensures { result ≡ settling n seat self }
     {
-        let dependency = settle(&self.tally.answers, n);
+        let dependency = self.tally.settle(n);
         let mut next = self.accept(0, self.value, dependency);
         next.tally.accepts = with_seat(self.tally.accepts, seat, true);
         next

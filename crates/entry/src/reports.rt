@@ -4,6 +4,7 @@ ghost use Rattle.std.specs.List.{position_from};
 ghost use Rattle.entry.specs.Reports.{is_reported, is_vote_report, better, best_accepted, votes_for, may_be_committed, first_vote, carried_by, choice};
 
 use crate::quorum::majority;
+use crate::takeover::Takeover;
 use block::{Report, Value};
 
 // What one card reported of the entry: nothing, its vote for the proposal, or what it accepted and at which ballot.
@@ -36,74 +37,80 @@ fn higher(best: Option<Reported>, reported: Option<Reported>) -> Option<Reported
     }
 }
 
-fn best_accepted(reports: &[Option<Reported>; 7]) -> Option<Reported>
-    ensures { result ≡ best_accepted reports.now }
-{
-    reports
-        .iter()
-        .fold(None, |best, reported| higher(best, *reported))
-}
-
-fn has_reported(reports: &[Option<Reported>; 7], seat: u32) -> bool
-    ensures { result ≡ is_reported (slice_index_or reports.now seat None) }
-{
-    seat < 7 && reports[seat as usize].is_some()
-}
-
-// The votes reported, and the owner's: it voted when it proposed, so it counts where it has not reported itself.
-fn votes(reports: &[Option<Reported>; 7], owner: u32) -> usize
-    ensures { result ≡ votes_for owner reports.now }
-{
-    let reported = reports.iter().filter(|reported| is_vote(reported)).count();
-    if has_reported(reports, owner) {
-        reported
-    } else {
-        reported + 1
-    }
-}
-
-// Enough votes that the proposal may have been committed on the fast path.
-fn may_be_committed(reports: &[Option<Reported>; 7], owner: u32, n: u32) -> bool
-    ensures { result ≡ may_be_committed n owner reports.now }
-{
-    votes(reports, owner) >= majority(n)
-}
-
-// The lowest seat that voted.
-fn first_voter(reports: &[Option<Reported>; 7]) -> Option<usize>
-    ensures value { result ≡ position_from is_vote_report 0 reports.now }
-    ensures bound { IfSome result (λ seat. seat < 7) }
-{
-    reports.iter().position(|reported| is_vote(reported))
-}
-
-// The report of the lowest seat that voted.
-fn first_vote(reports: &[Option<Reported>; 7]) -> Option<Reported>
-    ensures { result ≡ first_vote reports.now }
-{
-    match first_voter(reports) {
-        Some(seat) => reports[seat],
-        None => None,
-    }
-}
-
 fn carried(reported: Option<Reported>) -> (Value, u32)
     ensures { result ≡ carried_by reported }
 {
     reported.map_or((Value::Noop, 0), |r| (r.value, r.dependency))
 }
 
-// What a takeover may choose: what was accepted at the highest ballot, else what may have been committed on the fast path, else
-// a no-op.
-pub(crate) fn choose(reports: &[Option<Reported>; 7], owner: u32, n: u32) -> (Value, u32)
-    ensures { result ≡ choice n owner reports.now }
-{
-    let best = best_accepted(reports);
-    if best.is_some() {
-        carried(best)
-    } else if may_be_committed(reports, owner, n) {
-        carried(first_vote(reports))
-    } else {
-        (Value::Noop, 0)
+impl Takeover {
+    fn best_accepted(&self) -> Option<Reported>
+        ensures { result ≡ best_accepted self.now.reports }
+    {
+        self.reports
+            .iter()
+            .fold(None, |best, reported| higher(best, *reported))
+    }
+
+    pub(crate) fn has_reported(&self, seat: u32) -> bool
+        ensures { result ≡ is_reported (slice_index_or self.now.reports seat None) }
+    {
+        seat < 7 && self.reports[seat as usize].is_some()
+    }
+
+    // The votes reported, and the owner's: it voted when it proposed, so it counts where it has not reported itself.
+    fn votes(&self) -> usize
+        ensures { result ≡ votes_for self.now.log self.now.reports }
+    {
+        let reported = self
+            .reports
+            .iter()
+            .filter(|reported| is_vote(reported))
+            .count();
+        if self.has_reported(self.log) {
+            reported
+        } else {
+            reported + 1
+        }
+    }
+
+    // Enough votes that the proposal may have been committed on the fast path.
+    fn may_be_committed(&self, n: u32) -> bool
+        ensures { result ≡ may_be_committed n self.now.log self.now.reports }
+    {
+        self.votes() >= majority(n)
+    }
+
+    // The lowest seat that voted.
+    fn first_voter(&self) -> Option<usize>
+        ensures value { result ≡ position_from is_vote_report 0 self.now.reports }
+        ensures bound { IfSome result (λ seat. seat < 7) }
+    {
+        self.reports.iter().position(|reported| is_vote(reported))
+    }
+
+    // The report of the lowest seat that voted.
+    fn first_vote(&self) -> Option<Reported>
+        ensures { result ≡ first_vote self.now.reports }
+    {
+        match self.first_voter() {
+            Some(seat) => self.reports[seat],
+            None => None,
+        }
+    }
+
+    // What the takeover may choose: what was accepted at the highest ballot, else what may have been committed on the fast path,
+    // else a no-op.
+    pub(crate) fn choose(&self, n: u32) -> (Value, u32)
+        ensures { result ≡ choice n self.now.log self.now.reports }
+    {
+        let best = self.best_accepted();
+        if best.is_some() {
+            carried(best)
+        } else if self.may_be_committed(n) {
+            carried(self.first_vote())
+        } else {
+            (Value::Noop, 0)
+        }
     }
 }

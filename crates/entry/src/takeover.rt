@@ -4,9 +4,10 @@ ghost use Rattle.entry.specs.Takeovers.{begun, is_live, reporting, acknowledging
 
 use crate::entry::{Entry, Progress};
 use crate::quorum::majority;
-use crate::reports::{Reported, choose};
+use crate::reports::Reported;
 use crate::seats::with_seat;
 
+// Reports and accepts are two lists by seat, since each is counted by itself.
 #[derive(Clone, Copy, PartialEq, Eq, Debug)]
 pub struct Takeover {
     pub log: u32,
@@ -34,6 +35,7 @@ impl Takeover {
 
     // Whether replies about this entry at this ballot count: the takeover is of it, and the entry is uncommitted and still
     // promised to it.
+    // The numbers are those of a message, whatever they are, so they are no place of a table.
     pub fn is_live(&self, log: u32, entry: u32, ballot: u32, held: &Entry) -> bool
         ensures { result ≡ is_live self.now log entry ballot held.now }
     {
@@ -55,7 +57,7 @@ impl Takeover {
     ) -> (Takeover, Entry, Progress)
         ensures { result ≡ reporting n seat self held from reported }
     {
-        if self.chosen || from >= 7 || self.reports[from as usize].is_some() {
+        if self.chosen || from >= 7 || self.has_reported(from) {
             return (self, held, Progress::Waits);
         }
         let mut next = self;
@@ -64,7 +66,7 @@ impl Takeover {
         if reports.count() < majority(n) {
             return (next, held, Progress::Waits);
         }
-        let (value, dependency) = choose(&next.reports, self.log, n);
+        let (value, dependency) = next.choose(n);
         next.chosen = true;
         next.accepts = with_seat(self.accepts, seat, true);
         (

@@ -8,7 +8,7 @@ use machine::{Once, Plain};
 use std::alloc::{AllocError, AllocFailed, Global};
 
 // Why there is no card.
-#[derive(Clone, Copy)]
+#[derive(Clone, Copy, PartialEq, Eq, Debug)]
 pub enum NotMade {
     Refused(Refusal),
     NoMemory,

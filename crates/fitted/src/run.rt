@@ -22,7 +22,8 @@ impl From<Log> for u32 {
     }
 }
 
-// An entry of a log: 0.5 is entry 5 of log 0.
+// An entry of a log, by the numbers that are told outside: 0.5 is entry 5 of log 0. No bounds stand in the type, since `numbers` answers
+// for every place.
 #[derive(Clone, Copy, PartialEq, Eq, Debug)]
 pub struct Place {
     pub log: u32,
@@ -74,8 +75,8 @@ impl Run {
     }
 }
 
-// What is passed next: an entry of a log, with its value; or what is waited for.
-#[derive(Clone, Copy)]
+// What is passed next: an entry of a log, with its value; or what is waited for, which is no error, so no `Result`.
+#[derive(Clone, Copy, PartialEq, Eq, Debug)]
 pub enum Next {
     Passes(Log, Value),
     Waits(Option<Place>),

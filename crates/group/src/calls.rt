@@ -4,9 +4,9 @@ ghost use Rattle.group.specs.Groups.{seat_of, asked_by};
 
 use command::Command;
 
-// A call on the card in `seat`. A delivery names its message by its place among those that were sent in the group, so that nothing
+// A call on the card in `seat`, with whatever numbers: a card answers every log and entry. A delivery names its message by its place among those that were sent in the group, so that nothing
 // else is ever delivered; loss is not delivering, and repetition is delivering again.
-#[derive(Clone, Copy)]
+#[derive(Clone, Copy, PartialEq, Eq, Debug)]
 pub enum Call {
     Propose { seat: usize, command: Command },
     Deliver { seat: usize, message: usize },

@@ -15,6 +15,7 @@ fn inspect(rt: &HostRuntime) -> io::Result<()> {
     let mut input = BufReader::new(rt.alloc(), rt.stdin())?;
     let mut block = [0; 512];
     let mut counts = Counts::default();
+    // the language has no loop without a bound on input
     for _ in 0..u64::MAX {
         let bytes = next_block(&mut input, &mut block)?;
         if bytes.is_empty() {

@@ -20,6 +20,7 @@ struct Assigned {
     array: u32,
 }
 
+// A list and no map: this make is to keep a list.
 #[derive(Drop)]
 pub struct ListCatalogue {
     pairs: Vec<Assigned>,

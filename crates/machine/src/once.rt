@@ -9,6 +9,7 @@ use std::alloc::{AllocFailed, Global};
 // How many identities a layer keeps.
 const PLACES: usize = 256;
 
+// The identities stand in the order in which they came, as the state has them, so they are no set.
 #[derive(Drop)]
 pub struct Once<M> {
     below: M,

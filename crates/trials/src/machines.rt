@@ -1,7 +1,7 @@
 // The examples of the machines: each command, with the outcome's number and the value before.
 use crate::score::Score;
 use command::{Command, Identity};
-use machine::{ListCatalogue, Machine, Once, SparePool, TableCatalogue};
+use machine::{ListCatalogue, Machine, Once, Outcome, SparePool, TableCatalogue};
 use std::io;
 
 // A command as its three words, and the pair that answers it.
@@ -10,7 +10,7 @@ struct Example {
     operation: u32,
     bay: u32,
     amount: u32,
-    outcome: u32,
+    outcome: Outcome,
     before: u32,
 }
 
@@ -19,77 +19,77 @@ const CATALOGUE: [Example; 11] = [
         operation: 2,
         bay: 3,
         amount: 9,
-        outcome: 0,
+        outcome: Outcome::Done,
         before: 0,
     },
     Example {
         operation: 2,
         bay: 3,
         amount: 9,
-        outcome: 1,
+        outcome: Outcome::Refused,
         before: 9,
     },
     Example {
         operation: 2,
         bay: 3,
         amount: 0,
-        outcome: 2,
+        outcome: Outcome::NoAmount,
         before: 9,
     },
     Example {
         operation: 3,
         bay: 3,
         amount: 4,
-        outcome: 1,
+        outcome: Outcome::Refused,
         before: 9,
     },
     Example {
         operation: 1,
         bay: 3,
         amount: 7,
-        outcome: 0,
+        outcome: Outcome::Done,
         before: 9,
     },
     Example {
         operation: 3,
         bay: 3,
         amount: 9,
-        outcome: 0,
+        outcome: Outcome::Done,
         before: 9,
     },
     Example {
         operation: 1,
         bay: 63,
         amount: 0,
-        outcome: 0,
+        outcome: Outcome::Done,
         before: 0,
     },
     Example {
         operation: 1,
         bay: 64,
         amount: 0,
-        outcome: 3,
+        outcome: Outcome::Unknown,
         before: 0,
     },
     Example {
         operation: 2,
         bay: 64,
         amount: 0,
-        outcome: 3,
+        outcome: Outcome::Unknown,
         before: 0,
     },
     Example {
         operation: 0,
         bay: 3,
         amount: 9,
-        outcome: 3,
+        outcome: Outcome::Unknown,
         before: 0,
     },
     Example {
         operation: 4,
         bay: 3,
         amount: 9,
-        outcome: 3,
+        outcome: Outcome::Unknown,
         before: 0,
     },
 ];
@@ -99,63 +99,63 @@ const POOL: [Example; 9] = [
         operation: 3,
         bay: 0,
         amount: 1,
-        outcome: 1,
+        outcome: Outcome::Refused,
         before: 0,
     },
     Example {
         operation: 2,
         bay: 0,
         amount: 65_536,
-        outcome: 1,
+        outcome: Outcome::Refused,
         before: 0,
     },
     Example {
         operation: 2,
         bay: 0,
         amount: 65_535,
-        outcome: 0,
+        outcome: Outcome::Done,
         before: 0,
     },
     Example {
         operation: 2,
         bay: 0,
         amount: 1,
-        outcome: 1,
+        outcome: Outcome::Refused,
         before: 65_535,
     },
     Example {
         operation: 3,
         bay: 0,
         amount: 65_536,
-        outcome: 1,
+        outcome: Outcome::Refused,
         before: 65_535,
     },
     Example {
         operation: 3,
         bay: 0,
         amount: 65_535,
-        outcome: 0,
+        outcome: Outcome::Done,
         before: 65_535,
     },
     Example {
         operation: 1,
         bay: 0,
         amount: 5,
-        outcome: 0,
+        outcome: Outcome::Done,
         before: 0,
     },
     Example {
         operation: 1,
         bay: 15,
         amount: 0,
-        outcome: 0,
+        outcome: Outcome::Done,
         before: 0,
     },
     Example {
         operation: 1,
         bay: 16,
         amount: 0,
-        outcome: 3,
+        outcome: Outcome::Unknown,
         before: 0,
     },
 ];
@@ -184,8 +184,8 @@ fn try_one<M: Machine>(
         before,
     } = e;
     let (came, value) = machine.apply(numbered(number, e));
-    let came = u32::from(u8::from(came));
     score.note(came == outcome && value == before);
+    let (outcome, came) = (u8::from(outcome), u8::from(came));
     println!(rt;
         "  operation {operation} bay {bay} amount {amount}: expected ({outcome},{before}), came ({came},{value})"
     )
@@ -226,7 +226,7 @@ pub fn once(rt: &HostRuntime, score: &mut Score) -> io::Result<()> {
         operation: 2,
         bay: 0,
         amount: 1,
-        outcome: 0,
+        outcome: Outcome::Done,
         before: 0,
     };
     for number in 1..255 {
@@ -234,7 +234,7 @@ pub fn once(rt: &HostRuntime, score: &mut Score) -> io::Result<()> {
     }
     try_one(rt, score, &mut machine, 255, Example { before: 254, ..add })?;
     try_one(rt, score, &mut machine, 256, Example { before: 255, ..add })?;
-    try_one(rt, score, &mut machine, 257, Example { outcome: 4, ..add })?;
-    try_one(rt, score, &mut machine, 256, Example { outcome: 5, ..add })?;
-    try_one(rt, score, &mut machine, 1, Example { outcome: 5, ..add })
+    try_one(rt, score, &mut machine, 257, Example { outcome: Outcome::NoPlace, ..add })?;
+    try_one(rt, score, &mut machine, 256, Example { outcome: Outcome::Repeat, ..add })?;
+    try_one(rt, score, &mut machine, 1, Example { outcome: Outcome::Repeat, ..add })
 }

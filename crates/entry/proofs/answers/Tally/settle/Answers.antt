@@ -1,6 +1,6 @@
 use Rattle.std.proofs.Common.{rules}
 use Rattle.entry.specs.Answers.{settled}
-use Rattle.entry.proofs.answers.settle.Goals as goal
+use Rattle.entry.proofs.answers.Tally.settle.Goals as goal
 
 pub returns : goal.returns
 unfolding settled

@@ -1,6 +1,6 @@
 use Rattle.std.proofs.Common.{rules}
 use Rattle.entry.specs.Reports.{choice}
-use Rattle.entry.proofs.reports.choose.Goals as goal
+use Rattle.entry.proofs.takeover.Takeover.choose.Goals as goal
 
 pub returns-then-is_some : goal.returns-then-is_some
 unfolding choice
