@@ -1,5 +1,6 @@
 // The drive catalogue, as a table by bay.
-ghost use Rattle.std.specs.Prelude.{◌≡◌, map};
+ghost use Rattle.std.specs.Prelude.{◌≡◌, ℕ, List, map};
+ghost use Rattle.command.specs.declared.Command.{Command};
 ghost use Rattle.machine.specs.Catalogues.{assigned, released, catalogue};
 ghost use Rattle.machine.specs.OneRules.{OneRule};
 
@@ -38,6 +39,9 @@ impl TableCatalogue {
     pub fn new() -> TableCatalogue
         ensures first { catalogue.First (map (λ held. held.0) result.cells) }
         ensures named { OneRule ⟦<TableCatalogue as Machine>⟧.rule catalogue }
+        // what `apply` leaves and answers is what the catalogue's rule says
+        ensures next { (s : List ℕ) (c : Command) → ⟦<TableCatalogue as Machine>⟧.rule.next s c ≡ catalogue.next s c }
+        ensures answer { (s : List ℕ) (c : Command) → ⟦<TableCatalogue as Machine>⟧.rule.answer s c ≡ catalogue.answer s c }
     {
         Cells {
             cells: [Array(0); BAYS],

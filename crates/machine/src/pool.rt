@@ -1,5 +1,6 @@
 // The pool of spares: a count for each class.
-ghost use Rattle.std.specs.Prelude.{◌≡◌, map};
+ghost use Rattle.std.specs.Prelude.{◌≡◌, ℕ, List, map};
+ghost use Rattle.command.specs.declared.Command.{Command};
 ghost use Rattle.machine.specs.OneRules.{OneRule};
 ghost use Rattle.machine.specs.Pools.{added, taken, pool};
 
@@ -40,6 +41,9 @@ impl SparePool {
     pub fn new() -> SparePool
         ensures first { pool.First (map (λ held. held.0) result.cells) }
         ensures named { OneRule ⟦<SparePool as Machine>⟧.rule pool }
+        // what `apply` leaves and answers is what the pool's rule says
+        ensures next { (s : List ℕ) (c : Command) → ⟦<SparePool as Machine>⟧.rule.next s c ≡ pool.next s c }
+        ensures answer { (s : List ℕ) (c : Command) → ⟦<SparePool as Machine>⟧.rule.answer s c ≡ pool.answer s c }
     {
         Cells {
             cells: [Count(0); CLASSES],
