@@ -15,6 +15,7 @@ use crate::words::{block_of, words_of};
 
 const SIZE: usize = 512;
 
+// A function of its own, so that the search finds what the chain answers.
 fn is_tail_clear(block: &[u8; SIZE]) -> bool
     ensures { result ≡ all_zero (drop 60 block.now) }
 {
@@ -54,6 +55,7 @@ pub fn write_block(message: &Message, buffer: &mut [u8]) -> Result<(), Fault>
     ensures after { buffer.new ≡ buffered (message_fault message.now (length buffer.old)) message.now buffer.old }
     ensures reads_back { OnOk result (decode buffer.new ≡ Ok message.now) }
 {
+    // not by `try_from`, which does not promise what the buffer holds once the loan is over
     if buffer.len() != SIZE {
         return Err(Fault::Length);
     }

@@ -1,4 +1,5 @@
-// Which words go together. A rule between two words is judged at the higher one.
+// Which words go together. A rule between two words is judged at the higher one. Words are numbers here, since what they stand for is known
+// only once they fit: a value kind is 0 for nothing, 1 for a no-op and 2 for a command, a report 0 for empty, 1 for a vote and 2 for accepted.
 ghost use Rattle.std.specs.Prelude.{◌≡◌, ◌<◌};
 ghost use Rattle.block.specs.Fits.{to_fits, ballot_fits, value_fits, dependency_fits, report_fits, accept_fits, fits};
 ghost use Rattle.block.specs.Verdicts.{misfit_fault, unless_fault};
@@ -93,7 +94,8 @@ pub(crate) fn word_fits(words: &[u32; 15], place: usize) -> bool
     }
 }
 
-// Refuses the lowest word that does not fit the words below it. By place, since a word is judged with those below it.
+// Refuses the lowest word that does not fit the words below it. A loop with
+// `return`, by place, since a word is judged with those below it.
 pub(crate) fn check_fits(words: &[u32; 15]) -> Result<(), Fault>
     ensures { result ≡ unless_fault (misfit_fault words.now) tt }
 {

@@ -66,7 +66,7 @@ impl Destination {
         }
     }
 
-    // No `From`: 256 and 255 are one seat and all, so a word and a destination do not stand for each other.
+    // No `From`, which could not be kept inside this crate: two seats, 255 and 256, have one word.
     pub(crate) fn of_word(word: u32) -> Destination
         ensures { result ≡ to_of word }
     {
@@ -78,8 +78,8 @@ impl Destination {
     }
 }
 
-// What an entry holds. Nothing is a kind of value in a block, and what is done with it is mostly what is done with a no-op, so an `Option`
-// around the other two would split each such arm.
+// What an entry holds. Nothing is a kind of value in a block, with a number of its own, so this is no `Option` of the other two, which could
+// not have the methods below.
 #[derive(Clone, Copy, PartialEq, Eq, Debug)]
 pub enum Value {
     Nothing,

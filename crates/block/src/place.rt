@@ -1,4 +1,5 @@
-// Where each word stands in a block. Constants and no enum: they index the words, and a `Fault` names one place more.
+// Where each word stands in a block. Constants and no enum: they index the words, and a `Fault` names one place more. That
+// a place is below 15 stands in three contracts and is no type, which each of these would have to be turned into.
 pub(crate) const KIND: usize = 0;
 
 pub(crate) const FROM: usize = 1;

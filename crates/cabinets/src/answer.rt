@@ -9,6 +9,7 @@ use fitted::Run;
 use group::Call;
 use machine::Outcome;
 
+// What the cabinet answers, and not one card: so it has a case for a seat that it has not.
 #[derive(Clone, Copy, PartialEq, Eq, Debug)]
 pub enum Answer {
     // of a propose, deliver, settle or takeover
@@ -18,7 +19,8 @@ pub enum Answer {
     NoSuchSeat,
 }
 
-// What stands in a card's list: a command that ran, and the pair that the machine answered, the outcome and the value before.
+// What stands in a card's list: a command that ran, and the pair that the machine answered, the outcome and the value before. One answer of
+// run has the same three, by their names.
 #[derive(Clone, Copy, PartialEq, Eq, Debug)]
 pub struct Listed {
     pub command: Command,

@@ -21,7 +21,7 @@ fn fit_all<A: Plain + Drop, B: Plain + Drop>(
     ensures { MadeSeats A.Machine B.Machine n machines.items result }
 {
     let mut seats = Vec::with_capacity(heap, machines.len())?;
-    // No `map` with `collect`: each card is told how many are seated before it.
+    // No `map` with `try_collect`: that does not promise which card failed, and the contract says when one does.
     for machine in machines {
         let seat = seats.len() as u32;
         seats.push_reserved(Seat::make(heap, n, seat, machine)?);
@@ -29,16 +29,11 @@ fn fit_all<A: Plain + Drop, B: Plain + Drop>(
     Ok(seats)
 }
 
-// How many cards a group has for so many machines: each size by its own line, as the rules list them.
+// How many cards a group has for so many machines.
 fn group_of(machines: usize) -> Option<u32>
     ensures { result ≡ group_size machines }
 {
-    match machines {
-        3 => Some(3),
-        5 => Some(5),
-        7 => Some(7),
-        _ => None,
-    }
+    matches!(machines, 3 | 5 | 7).then_some(machines as u32)
 }
 
 impl<A: Plain + Drop, B: Plain + Drop> Cabinet<A, B> {

@@ -15,7 +15,8 @@ pub enum Make<A, B> {
     Second(B),
 }
 
-// What stands in a seat: a card fitted with a machine of the one make or of the other.
+// What stands in a seat: a card fitted with a machine of the one make or of the other. The two are of two types, so each match on them has two
+// arms with one text.
 pub type Seat<A, B> = Make<Card<A>, Card<B>>;
 
 impl<A: Plain, B: Plain> Seat<A, B> {

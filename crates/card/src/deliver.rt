@@ -10,6 +10,7 @@ use crate::replica::Replica;
 use block::{Destination, Kind, Message, Value, read_block};
 use entry::{Answer, Entry, Progress, Reported, State};
 
+// The entry, `held`, is handed along with the message, so that the table is read once.
 impl Replica {
     // Stores a proposal with this card's answer: a vote, or, where it is blocked, a reply with all that this card holds.
     fn answer(&mut self, d: &Delivered, held: Entry) -> Option<Message>

@@ -23,7 +23,7 @@ impl Answer {
 }
 
 // What an owner knows of its own entry: each seat's first answer, if it was heard, and the seats that accepted at ballot 0. Two lists by
-// seat and not one of pairs, since each is counted by itself.
+// seat, as the protocol has them: each is set and counted without the other.
 #[derive(Clone, Copy, PartialEq, Eq, Debug)]
 pub struct Tally {
     pub answers: [Option<Answer>; 7],

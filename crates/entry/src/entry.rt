@@ -24,7 +24,7 @@ impl From<State> for u32 {
 }
 
 // What counting an answer, a report or an AcceptOk led to: nothing yet, or that the entry is accepted here or committed, which
-// all are then told. No `Option`: to wait is what a count mostly leads to.
+// all are then told. No `Option`: a count has three ends, and the rules name each.
 #[derive(Clone, Copy, PartialEq, Eq, Debug)]
 pub enum Progress {
     Waits,
@@ -40,14 +40,16 @@ pub struct Entry {
     pub accept_ballot: u32,
     pub value: Value,
     pub dependency: u32,
-    // this card's own answer to the proposal, which never changes: the dependency, and whether it was a vote; not an
-    // `Option<Answer>`, since a look-up shows the two as the protocol lists them, and a scan asks for the dependency whichever it was
+    // this card's own answer to the proposal, which never changes: the dependency, and whether it was a vote; two fields, as the
+    // protocol has them and a look-up shows them
     pub answered: u32,
     pub vote: bool,
     // kept by the owner alone
     pub tally: Tally,
 }
 
+// A value and its dependency stay two parameters: an entry, a message and a report have them as two fields, as the block has them in two
+// words. Empty entries come of `empty` and not of `Default`, for the protocol names them so.
 impl Entry {
     pub fn empty() -> Entry
         ensures { result ≡ empty }

@@ -8,7 +8,7 @@ use crate::quorum::{fast_quorum, majority};
 use crate::seats::with_seat;
 use block::Value;
 
-// `n` and `seat` are no struct of their own: most of these need the size of the group alone.
+// `n` and `seat` are no struct of their own: three of these need the size of the group alone, and one the seat alone.
 impl Entry {
     // The owner's own proposal, which it answers itself with a vote.
     pub fn propose(self, seat: u32, value: Value, dependency: u32) -> Entry

@@ -7,7 +7,7 @@ use crate::quorum::majority;
 use crate::reports::Reported;
 use crate::seats::with_seat;
 
-// Reports and accepts are two lists by seat, since each is counted by itself.
+// Its parts are those that the protocol has: two lists by seat, each set and counted without the other, and whether it has chosen.
 #[derive(Clone, Copy, PartialEq, Eq, Debug)]
 pub struct Takeover {
     pub log: u32,
@@ -35,7 +35,7 @@ impl Takeover {
 
     // Whether replies about this entry at this ballot count: the takeover is of it, and the entry is uncommitted and still
     // promised to it.
-    // The numbers are those of a message, whatever they are, so they are no place of a table.
+    // Three numbers, as a message has them: a place of a table is the card's, above this crate.
     pub fn is_live(&self, log: u32, entry: u32, ballot: u32, held: &Entry) -> bool
         ensures { result ≡ is_live self.now log entry ballot held.now }
     {

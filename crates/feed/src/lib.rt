@@ -8,10 +8,7 @@ use std::io::Read;
 
 // Reads until `block` is full or the input ends, and answers the bytes that came. `take` and `read_to_end` would do the same into a
 // `Vec`, but no clause of theirs says that no more than 512 came.
-pub fn next_block<'a, R: Read>(
-    input: &mut R,
-    block: &'a mut [u8; 512],
-) -> io::Result<&'a [u8]>
+pub fn next_block<'a, R: Read>(input: &mut R, block: &'a mut [u8; 512]) -> io::Result<&'a [u8]>
     ensures { IfOk result (λ came. length came.now ≤ 512) }
 {
     let mut filled = 0;

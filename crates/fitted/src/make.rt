@@ -49,10 +49,7 @@ impl<M: Plain + Drop> Card<M> {
         let machine = Once::new(heap, machine)?;
         Ok(Card {
             replica,
-            passed: Passed {
-                pilot: 0,
-                copilot: 0,
-            },
+            passed: Passed::default(),
             machine,
         })
     }

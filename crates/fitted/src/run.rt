@@ -22,8 +22,8 @@ impl From<Log> for u32 {
     }
 }
 
-// An entry of a log, by the numbers that are told outside: 0.5 is entry 5 of log 0. No bounds stand in the type, since `numbers` answers
-// for every place.
+// An entry of a log, by the numbers that are told outside: 0.5 is entry 5 of log 0. Its log is a number and it has no bounds, since its
+// fields are public and `numbers` answers for every place that there can be.
 #[derive(Clone, Copy, PartialEq, Eq, Debug)]
 pub struct Place {
     pub log: u32,

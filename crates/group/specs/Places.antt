@@ -1,4 +1,4 @@
--- A card's table as the argument about whole groups sees it: how it begins, what a write changes, how its seats are count_by.
+-- A card's table as the argument about whole groups sees it: how it begins, what a write changes, how its seats are counted.
 use Rattle.std.specs.Prelude.{◌≡◌, ℕ, ◌≤◌, Bool, true, false, List, length, slice_index_or}
 use Rattle.std.proofs.Math.Option.{none}
 use Rattle.agreement.specs.Logs.{Log}

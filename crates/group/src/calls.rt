@@ -4,8 +4,9 @@ ghost use Rattle.group.specs.Groups.{seat_of, asked_by};
 
 use command::Command;
 
-// A call on the card in `seat`, with whatever numbers: a card answers every log and entry. A delivery names its message by its place among those that were sent in the group, so that nothing
-// else is ever delivered; loss is not delivering, and repetition is delivering again.
+// A call on the card in `seat`. A delivery names its message by its place among those that were sent in the group, so that nothing
+// else is ever delivered; loss is not delivering, and repetition is delivering again. Log and entry are two numbers and no place, since a
+// card answers whatever numbers it is asked.
 #[derive(Clone, Copy, PartialEq, Eq, Debug)]
 pub enum Call {
     Propose { seat: usize, command: Command },
@@ -20,11 +21,11 @@ impl Call {
         ensures { result ≡ seat_of self }
     {
         match self {
-            Call::Propose { seat, .. } => seat,
-            Call::Deliver { seat, .. } => seat,
-            Call::Settle { seat, .. } => seat,
-            Call::Takeover { seat, .. } => seat,
-            Call::Run { seat } => seat,
+            Call::Propose { seat, .. }
+            | Call::Deliver { seat, .. }
+            | Call::Settle { seat, .. }
+            | Call::Takeover { seat, .. }
+            | Call::Run { seat } => seat,
         }
     }
 

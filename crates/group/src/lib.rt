@@ -70,7 +70,7 @@ pub fn takeovers_turn()
 
 // Whatever calls are made on the cards of a new group, in whatever order, with messages lost, late or repeated: no two cards hold an
 // entry committed with different values or dependencies, now or at any two moments; of two commands in different logs one waits for
-// the other; and every committed command was proposed.
+// the other; and every committed command was proposed, or was noted as proposed in the new group.
 pub fn groups_agree()
     ensures { GroupsAgree }
 {}

@@ -15,7 +15,7 @@ fn inspect(rt: &HostRuntime) -> io::Result<()> {
     let mut input = BufReader::new(rt.alloc(), rt.stdin())?;
     let mut block = [0; 512];
     let mut counts = Counts::default();
-    // the language has no loop without a bound on input
+    // a count in place of a loop without end, which is the language's form for a loop that ends with its input
     for _ in 0..u64::MAX {
         let bytes = next_block(&mut input, &mut block)?;
         if bytes.is_empty() {

@@ -26,6 +26,7 @@ pub fn answer_alike<M: Machine, N: Machine>(
     ensures layered { Layered M.Machine.rule N.Machine.rule }
     ensures layers { AnswerAlike (once M.Machine.rule) (once N.Machine.rule) }
 {
+    // no `all`, which would stop at the first two that differ: both machines are to get every command
     let mut alike = true;
     for command in commands {
         alike &= one.apply(*command) == other.apply(*command);

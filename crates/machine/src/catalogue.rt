@@ -37,7 +37,7 @@ pub type TableCatalogue = Cells<Array, BAYS>;
 
 impl TableCatalogue {
     pub fn new() -> TableCatalogue
-        ensures first { catalogue.First (map (λ held. held.0) result.cells) }
+        ensures first { catalogue.First (⟦<TableCatalogue as Machine>⟧.means result) }
         ensures named { OneRule ⟦<TableCatalogue as Machine>⟧.rule catalogue }
         // what `apply` leaves and answers is what the catalogue's rule says
         ensures next { (s : List ℕ) (c : Command) → ⟦<TableCatalogue as Machine>⟧.rule.next s c ≡ catalogue.next s c }

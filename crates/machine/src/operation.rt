@@ -1,5 +1,5 @@
 // What a command may ask of one bay.
-ghost use Rattle.std.specs.Prelude.{◌≡◌, ◌<◌, Some, OnSome};
+ghost use Rattle.std.specs.Prelude.{◌≡◌, ◌<◌, Some, OnSome, IfErr};
 ghost use Rattle.std.specs.Result.{result_ok};
 ghost use Rattle.machine.specs.Operations.{operation, served};
 
@@ -28,7 +28,7 @@ impl From<Operation> for u32 {
 impl TryFrom<u32> for Operation {
     type Error = UnknownOperation;
 
-    ghost try_from_gives = { λ number result. result_ok result ≡ operation number };
+    ghost try_from_gives = { λ number result. (result_ok result ≡ operation number) × IfErr result (λ unknown. unknown.0 ≡ number) };
 
     fn try_from(number: u32) -> Result<Operation, UnknownOperation> {
         match number {

@@ -39,7 +39,7 @@ pub type SparePool = Cells<Count, CLASSES>;
 
 impl SparePool {
     pub fn new() -> SparePool
-        ensures first { pool.First (map (λ held. held.0) result.cells) }
+        ensures first { pool.First (⟦<SparePool as Machine>⟧.means result) }
         ensures named { OneRule ⟦<SparePool as Machine>⟧.rule pool }
         // what `apply` leaves and answers is what the pool's rule says
         ensures next { (s : List ℕ) (c : Command) → ⟦<SparePool as Machine>⟧.rule.next s c ≡ pool.next s c }

@@ -14,7 +14,7 @@ fn play(rt: &HostRuntime, mut card: Replica) -> io::Result<()> {
     let mut input = BufReader::new(rt.alloc(), rt.stdin())?;
     let mut output = BufWriter::new(rt.alloc(), rt.stdout())?;
     let mut block = [0; 512];
-    // the language has no loop without a bound on input
+    // a count in place of a loop without end, which is the language's form for a loop that ends with its input
     for _ in 0..u64::MAX {
         if next_block(&mut input, &mut block)?.len() < block.len() {
             break;

@@ -234,7 +234,34 @@ pub fn once(rt: &HostRuntime, score: &mut Score) -> io::Result<()> {
     }
     try_one(rt, score, &mut machine, 255, Example { before: 254, ..add })?;
     try_one(rt, score, &mut machine, 256, Example { before: 255, ..add })?;
-    try_one(rt, score, &mut machine, 257, Example { outcome: Outcome::NoPlace, ..add })?;
-    try_one(rt, score, &mut machine, 256, Example { outcome: Outcome::Repeat, ..add })?;
-    try_one(rt, score, &mut machine, 1, Example { outcome: Outcome::Repeat, ..add })
+    try_one(
+        rt,
+        score,
+        &mut machine,
+        257,
+        Example {
+            outcome: Outcome::NoPlace,
+            ..add
+        },
+    )?;
+    try_one(
+        rt,
+        score,
+        &mut machine,
+        256,
+        Example {
+            outcome: Outcome::Repeat,
+            ..add
+        },
+    )?;
+    try_one(
+        rt,
+        score,
+        &mut machine,
+        1,
+        Example {
+            outcome: Outcome::Repeat,
+            ..add
+        },
+    )
 }
