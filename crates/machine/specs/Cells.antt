@@ -1,5 +1,5 @@
 -- Machines that hold a number in each bay.
-use Rattle.std.specs.Prelude.{◌≡◌, ℕ, ◌<◌, Bool, true, false, cond, List, replicate, Some, None, Option, ◌==◌, slice_index, slice_set, refl}
+use Rattle.std.specs.Prelude.{◌≡◌, ℕ, cond, List, replicate, Some, None, Option, ◌==◌, slice_index, slice_set, refl}
 use Rattle.std.proofs.Common.{arith}
 use Rattle.command.specs.declared.Command.{Command}
 use Rattle.machine.specs.declared.operation.Operation.{Operation}
@@ -7,7 +7,6 @@ use Rattle.machine.specs.declared.operation.Operation.TheVariants.{Read, Put, Ta
 use Rattle.machine.specs.declared.outcome.Outcome.{Outcome}
 use Rattle.machine.specs.declared.outcome.Outcome.TheVariants.{Done, Refused, NoAmount, Unknown}
 use Rattle.machine.specs.Operations.{served}
-use Rattle.machine.specs.Outcomes.{number}
 use Rattle.machine.specs.Rules.{Rule, Pair, Steady, Low}
 
 -- what a kind makes of the number held and an amount: the number after, or none where the state refuses it
@@ -56,22 +55,6 @@ cells n settle = record {
 pub cells_steady : (n : ℕ) (settle : Settle) → Steady (cells n settle)
 cells_steady n settle s c = refl
 
-told_low : (held : ℕ) (after : Option ℕ) → number (outcome_of held after).0 < 4
-told_low held (Some after) = omega arith
-told_low held None = omega arith
-
-changed_low : (none : Bool) (held : ℕ) (after : Option ℕ) → number (cond none (NoAmount, held) (outcome_of held after)).0 < 4
-changed_low true held after = omega arith
-changed_low false held after = told_low held after
-
-settled_low : (put take : Change) (o : Operation) (held amount : ℕ) → number (settled put take o held amount).0 < 4
-settled_low put take Read held amount = omega arith
-settled_low put take Put held amount = changed_low (amount == 0) held (put held amount)
-settled_low put take Take held amount = changed_low (amount == 0) held (take held amount)
-
-answer_low : (put take : Change) (o : Option Operation) (s : List ℕ) (c : Command) → number (answer_by (settled put take) o s c).0 < 4
-answer_low put take None s c = omega arith
-answer_low put take (Some o) s c = settled_low put take o (slice_index s c.bay) c.amount
-
+-- no bay has an outcome of the layer `Once`
 pub cells_low : (n : ℕ) (put take : Change) → Low (cells n (settled put take))
-cells_low n put take s c = answer_low put take (served n c) s c
+cells_low n put take s c = grind arith
