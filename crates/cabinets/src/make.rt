@@ -33,7 +33,10 @@ fn fit_all<A: Plain + Drop, B: Plain + Drop>(
 fn group_of(machines: usize) -> Option<u32>
     ensures { result ≡ group_size machines }
 {
-    matches!(machines, 3 | 5 | 7).then_some(machines as u32)
+    match machines {
+        3 | 5 | 7 => Some(machines as u32),
+        _ => None,
+    }
 }
 
 impl<A: Plain + Drop, B: Plain + Drop> Cabinet<A, B> {

@@ -3,7 +3,7 @@ use card::Replica;
 use machine::Once;
 
 // The last entry passed in each log, 0 for none.
-#[derive(Clone, Copy, Default, PartialEq, Eq, Debug)]
+#[derive(Clone, Copy, PartialEq, Eq, Debug)]
 pub struct Passed {
     pub pilot: u32,
     pub copilot: u32,

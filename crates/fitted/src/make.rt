@@ -49,7 +49,10 @@ impl<M: Plain + Drop> Card<M> {
         let machine = Once::new(heap, machine)?;
         Ok(Card {
             replica,
-            passed: Passed::default(),
+            passed: Passed {
+                pilot: 0,
+                copilot: 0,
+            },
             machine,
         })
     }

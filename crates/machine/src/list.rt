@@ -85,7 +85,9 @@ impl Machine for ListCatalogue {
         };
         let held = self.array(command.bay);
         let (outcome, after) = settle(operation, Array(held), command.amount);
-        self.set(command.bay, after.number());
+        if after.number() != held {
+            self.set(command.bay, after.number());
+        }
         (outcome, held)
     }
 }
