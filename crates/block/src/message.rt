@@ -109,6 +109,7 @@ impl Value {
         }
     }
 
+    // By the numbers above.
     pub(crate) fn of_words(kind: u32, command: Command) -> Value
         ensures { result ≡ value_of kind command }
     {
@@ -151,6 +152,7 @@ impl Report {
         }
     }
 
+    // By the numbers above.
     pub(crate) fn of_words(report: u32, accept_ballot: u32) -> Report
         ensures { result ≡ report_of report accept_ballot }
     {

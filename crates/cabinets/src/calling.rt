@@ -30,6 +30,7 @@ fn answer<M: Plain>(card: &mut Card<M>, sent: &[Message], call: Call) -> Answer
     ensures state { meaning_of M.Machine.rule M.Machine.means card.new ≡ card_after M.Machine.rule (meaning_of M.Machine.rule M.Machine.means card.old) sent.now call }
     ensures answer { result ≡ answer_from M.Machine.rule (meaning_of M.Machine.rule M.Machine.means card.old) sent.now call }
 {
+    // a call is data that a list holds, so it is no closure
     match call {
         Call::Propose { command, .. } => Answer::Ordered(card.propose(command)),
         Call::Deliver { message, .. } => match sent.get(message) {

@@ -65,11 +65,13 @@ impl Replica {
         self.store(d.place(), held, progress)
     }
 
-    // A report to this card's takeover.
+    // A report to this card's takeover. It begins as the function above: one for both would have to say what each rule makes of a takeover that
+    // is not live.
     fn hear_report(&mut self, d: &Delivered, held: Entry) -> Option<Message>
         ensures { (self.new, result) ≡ reports self.old d.now.message held }
     {
         let m = &d.message;
+        // no `From`: a message is no report, though one kind of it has one
         let reported = Reported {
             report: m.report,
             value: m.value,

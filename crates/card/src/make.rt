@@ -22,7 +22,7 @@ fn empty_logs() -> [[Entry; 128]; 2]
 }
 
 impl Replica {
-    // A card in `seat` of a new group of n.
+    // A card in `seat` of a new group of n: two numbers, since there is an answer for every two.
     pub fn make(n: u32, seat: u32) -> Result<Replica, Refusal>
         ensures { Made n seat result }
     {

@@ -1,6 +1,7 @@
 // What a card says.
 ghost use Rattle.std.specs.Prelude.{◌≡◌};
-ghost use Rattle.card.specs.Messages.{bare, fast_accept_message, fast_answer, accept, accept_ok_message, commit, prepare, prepare_ok_message, reject, announced};
+ghost use Rattle.block.specs.declared.message.Report.TheVariants as report;
+ghost use Rattle.card.specs.Messages.{message_of, bare, fast_accept_message, fast_answer, accept, accept_ok_message, commit, prepare, prepare_ok_message, reject, announced};
 
 use crate::place::Place;
 use crate::replica::Replica;
@@ -25,14 +26,21 @@ impl Replica {
         }
     }
 
-    pub(crate) fn fast_accept(&self, at: Place, held: &Entry) -> Message
-        ensures { result ≡ fast_accept_message self.now.seat at.log at.entry held.now }
+    // A message with what the entry holds.
+    fn carrying(&self, kind: Kind, to: Destination, at: Place, held: &Entry) -> Message
+        ensures { result ≡ message_of kind self.now.seat to at.log at.entry 0 held.now.value held.now.dependency report.Empty }
     {
         Message {
             value: held.value,
             dependency: held.dependency,
-            ..self.bare(Kind::FastAccept, Destination::All, at)
+            ..self.bare(kind, to, at)
         }
+    }
+
+    pub(crate) fn fast_accept(&self, at: Place, held: &Entry) -> Message
+        ensures { result ≡ fast_accept_message self.now.seat at.log at.entry held.now }
+    {
+        self.carrying(Kind::FastAccept, Destination::All, at, held)
     }
 
     // This card's answer to a proposal, as it gave it the first time.
@@ -54,9 +62,7 @@ impl Replica {
     {
         Message {
             ballot: held.accept_ballot,
-            value: held.value,
-            dependency: held.dependency,
-            ..self.bare(Kind::Accept, Destination::All, at)
+            ..self.carrying(Kind::Accept, Destination::All, at, held)
         }
     }
 
@@ -72,11 +78,7 @@ impl Replica {
     pub(crate) fn commit(&self, to: Destination, at: Place, held: &Entry) -> Message
         ensures { result ≡ commit self.now.seat to at.log at.entry held.now }
     {
-        Message {
-            value: held.value,
-            dependency: held.dependency,
-            ..self.bare(Kind::Commit, to, at)
-        }
+        self.carrying(Kind::Commit, to, at, held)
     }
 
     pub(crate) fn prepare(&self, at: Place, ballot: u32) -> Message

@@ -4,7 +4,7 @@ ghost use Rattle.card.specs.Groups.{is_group};
 
 use entry::{Entry, Takeover};
 
-// A card in `seat` of a group of n. Log 0 is the pilot's, log 1 the copilot's; each has entries 1 to 128.
+// Fixed tables, since a card has no heap. A card in `seat` of a group of n. Log 0 is the pilot's, log 1 the copilot's; each has entries 1 to 128.
 #[derive(Drop)]
 pub struct Replica {
     pub n: u32,

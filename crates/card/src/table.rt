@@ -1,4 +1,4 @@
-// The table of a card.
+// The table of a card. A log is its number, 0 or 1, as a message and the calls have it, so the other log is `1 - log`.
 ghost use Rattle.std.specs.Prelude.{◌≡◌, ◌≤◌, Some};
 ghost use Rattle.card.specs.Tables.{entry_at, with_entry, with_takeover, highest_held, highest_taken, is_blocked, is_awaited};
 

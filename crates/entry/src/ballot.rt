@@ -22,7 +22,7 @@ fn next_round(seat: u32, promised: u32) -> u32
     }
 }
 
-// The smallest ballot of a seat above `promised`, if there is one left.
+// The smallest ballot of a seat above `promised`, if there is one left. The bounds are those of a block, which has them as its definition does.
 pub fn next_ballot(seat: u32, promised: u32) -> Option<u32>
     ensures { result ≡ next_ballot seat promised }
 {

@@ -72,13 +72,13 @@ impl Entry {
     pub fn is_held(&self) -> bool
         ensures { result ≡ is_held self.now.state }
     {
-        !matches!(self.state, State::Empty)
+        self.state != State::Empty
     }
 
     pub fn is_committed(&self) -> bool
         ensures { result ≡ is_committed self.now.state }
     {
-        matches!(self.state, State::Committed)
+        self.state == State::Committed
     }
 
     // Held or promised: a proposal goes above every such entry.

@@ -4,7 +4,7 @@ ghost use Rattle.entry.specs.Owners.{proposing, counts_answers, can_settle, has_
 
 use crate::answers::Answer;
 use crate::entry::{Entry, Progress, State};
-use crate::quorum::{fast_quorum, majority};
+use crate::quorum::{fast_quorum, is_accepted, majority};
 use crate::seats::with_seat;
 use block::Value;
 
@@ -23,10 +23,11 @@ impl Entry {
     pub fn counts_answers(&self) -> bool
         ensures { result ≡ counts_answers self.now }
     {
-        matches!(self.state, State::Answered) && self.promised == 0
+        self.state == State::Answered && self.promised == 0
     }
 
-    // Whether there are answers enough to settle on a dependency.
+    // Whether there are answers enough to settle on a dependency. This count and the two below are three rules, each with a test and a number of its
+    // own.
     pub fn can_settle(&self, n: u32) -> bool
         ensures { result ≡ can_settle n self.now }
     {
@@ -97,16 +98,12 @@ impl Entry {
     pub fn hear_accept(self, n: u32, from: u32) -> (Entry, Progress)
         ensures { result ≡ acknowledging n self from }
     {
-        let State::Accepted = self.state else {
-            return (self, Progress::Waits);
-        };
-        if self.promised != 0 {
+        if self.state != State::Accepted || self.promised != 0 {
             return (self, Progress::Waits);
         }
         let mut next = self;
         next.tally.accepts = with_seat(self.tally.accepts, from, true);
-        let accepts = next.tally.accepts.iter().filter(|accepts| **accepts);
-        if accepts.count() < majority(n) {
+        if !is_accepted(&next.tally.accepts, n) {
             (next, Progress::Waits)
         } else {
             (next.commit(self.value, self.dependency), Progress::Commits)

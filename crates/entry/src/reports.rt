@@ -18,7 +18,7 @@ pub struct Reported {
 fn is_vote(reported: &Option<Reported>) -> bool
     ensures { result ≡ is_vote_report reported.now }
 {
-    reported.is_some_and(|reported| matches!(reported.report, Report::Vote))
+    reported.is_some_and(|reported| reported.report == Report::Vote)
 }
 
 // The accepted report with the higher accept ballot; the one at hand where they are equal, for it is of the lower seat.

@@ -3,7 +3,7 @@ ghost use Rattle.std.specs.Prelude.{◌≡◌};
 ghost use Rattle.entry.specs.Takeovers.{begun, is_live, reporting, acknowledging};
 
 use crate::entry::{Entry, Progress};
-use crate::quorum::majority;
+use crate::quorum::{is_accepted, majority};
 use crate::reports::Reported;
 use crate::seats::with_seat;
 
@@ -85,8 +85,7 @@ impl Takeover {
         }
         let mut next = self;
         next.accepts = with_seat(self.accepts, from, true);
-        let accepts = next.accepts.iter().filter(|accepts| **accepts);
-        if accepts.count() < majority(n) {
+        if !is_accepted(&next.accepts, n) {
             return (next, held, Progress::Waits);
         }
         (

@@ -49,6 +49,7 @@ impl<M: Plain + Drop> Card<M> {
         let machine = Once::new(heap, machine)?;
         Ok(Card {
             replica,
+            // written out, for the proof goes part by part
             passed: Passed {
                 pilot: 0,
                 copilot: 0,

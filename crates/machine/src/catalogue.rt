@@ -9,7 +9,7 @@ use crate::rule::Machine;
 
 pub(crate) const BAYS: usize = 64;
 
-// The array that a bay is assigned to, 0 for none.
+// The array that a bay is assigned to, 0 for none, as commands and answers have it.
 #[derive(Clone, Copy)]
 pub struct Array(pub(crate) u32);
 

@@ -1,4 +1,4 @@
-// How many examples came as expected.
+// How many examples came as expected. A type beside the `Counts` of `inspect`, which has a case more and another text.
 ghost use Rattle.std.specs.Prelude.{◌≡◌, Some};
 ghost use Rattle.trials.specs.Scores.{counted, score_text};
 
