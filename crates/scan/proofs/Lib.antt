@@ -1,1 +1,2 @@
 pub mod Scanned
+pub mod Skipped

@@ -3,8 +3,8 @@ use Rattle.std.specs.Prelude.{◌≡◌, ℕ, ◌+◌, Bool, cond, List, [], ◌
 use Rattle.std.specs.Borrow.{Bor}
 
 -- what a closure answers of an item is what p says of it
-abbrev pub Decides : {X : Type 0} → (Bor X → Bool → Type 0) → (X → Bool) → Type 0
-Decides {X} answers p = (x : Bor X) (b : Bool) → answers x b → b ≡ p x.now
+abbrev pub IsTest : {X : Type 0} → (Bor X → Bool → Type 0) → (X → Bool) → Type 0
+IsTest {X} answers p = (x : Bor X) (b : Bool) → answers x b → b ≡ p x.now
 
 -- the number of the last item that passes, counted from 1; 0 where none does
 abbrev pub highest_of : {X : Type 0} → (X → Bool) → List X → ℕ
