@@ -4,6 +4,7 @@ ghost use Rattle.block.specs.Words.{word_at, words_of, word_bytes, block_of};
 
 use std::array;
 
+// By its four bytes: with `as_chunks` the proof of a word did not close.
 fn word_at(block: &[u8; 512], place: usize) -> u32
     requires { place < 15 }
     ensures { result ≡ word_at block.now place }
