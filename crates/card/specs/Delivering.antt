@@ -50,10 +50,10 @@ answers r m e = (
 )
 
 -- an entry that was counted on, and what all are told of it
-abbrev pub stores : Replica → ℕ → ℕ → Entry × Progress → Turn
+abbrev pub stores : Replica → ℕ → ℕ → Entry × Option Progress → Turn
 stores r log i p = (with_entry r log i p.0, announced r.seat log i p.0 p.1)
 
-abbrev pub counts : Replica → Message → Entry × Progress → Turn
+abbrev pub counts : Replica → Message → Entry × Option Progress → Turn
 counts r m p = stores r m.log m.entry p
 
 -- an answer to this card's own proposal
@@ -61,7 +61,7 @@ unfoldable pub hears : Replica → Message → Entry → Answer → Turn
 hears r m e a = counts r m (hearing r.n r.seat e m.from a)
 
 -- a takeover and its entry that were counted on
-abbrev pub takes : Replica → Message → Takeover × Entry × Progress → Turn
+abbrev pub takes : Replica → Message → Takeover × Entry × Option Progress → Turn
 takes r m p = (
   with_takeover (with_entry r m.log m.entry p.1) (Some p.0),
   announced r.seat m.log m.entry p.1 p.2,

@@ -11,7 +11,7 @@ use Rattle.block.specs.declared.message.Report.TheVariants as report
 use Rattle.block.specs.declared.message.Message.{Message}
 use Rattle.entry.specs.declared.entry.Entry.{Entry}
 use Rattle.entry.specs.declared.entry.Progress.{Progress}
-use Rattle.entry.specs.declared.entry.Progress.TheVariants.{Waits, Accepts, Commits}
+use Rattle.entry.specs.declared.entry.Progress.TheVariants.{Accepts, Commits}
 use Rattle.entry.specs.declared.reports.Reported.{Reported}
 
 -- a message from its parts: kind, from, to, log, entry, ballot, value, dependency, report
@@ -51,7 +51,7 @@ abbrev pub reject : ℕ → ℕ → ℕ → ℕ → Entry → Message
 reject from to log i e = message_of Reject from (Seat to) log i e.promised Nothing 0 report.Empty
 
 -- what all are told: nothing, or what is now accepted or committed here
-abbrev pub announced : ℕ → ℕ → ℕ → Entry → Progress → Option Message
-announced from log i e Waits = None
-announced from log i e Accepts = Some (accept from log i e)
-announced from log i e Commits = Some (commit from All log i e)
+abbrev pub announced : ℕ → ℕ → ℕ → Entry → Option Progress → Option Message
+announced from log i e None = None
+announced from log i e (Some Accepts) = Some (accept from log i e)
+announced from log i e (Some Commits) = Some (commit from All log i e)

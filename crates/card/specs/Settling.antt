@@ -1,5 +1,5 @@
 -- The owner settles on a dependency without waiting for more answers.
-use Rattle.std.specs.Prelude.{ℕ, cond, not, ◌&&◌, Ok, Err, ◌==◌}
+use Rattle.std.specs.Prelude.{ℕ, cond, not, ◌&&◌, Ok, Err, ◌==◌, Some}
 use Rattle.entry.specs.declared.entry.Progress.TheVariants.{Accepts}
 use Rattle.entry.specs.Owners.{counts_answers, can_settle, settling}
 use Rattle.card.specs.declared.refusal.Refusal.TheVariants.{NoSuchEntry, NotOpen, TooFewAnswers}
@@ -15,5 +15,5 @@ settle r log i =
     (cond (not (can_settle r.n (entry_at r log i))) (Err TooFewAnswers)
     (Ok (
       with_entry r log i (settling r.n r.seat (entry_at r log i)),
-      announced r.seat log i (settling r.n r.seat (entry_at r log i)) Accepts,
+      announced r.seat log i (settling r.n r.seat (entry_at r log i)) (Some Accepts),
     ))))

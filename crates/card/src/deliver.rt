@@ -28,7 +28,7 @@ impl Replica {
     }
 
     // Stores an entry that was counted on, and tells all what it came to.
-    fn store(&mut self, at: Place, held: Entry, progress: Progress) -> Option<Message>
+    fn store(&mut self, at: Place, held: Entry, progress: Option<Progress>) -> Option<Message>
         ensures { (self.new, result) ≡ stores self.old at.log at.entry (held, progress) }
     {
         self.change(at, held);

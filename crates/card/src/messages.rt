@@ -112,13 +112,17 @@ impl Replica {
     }
 
     // What all are told once an entry is accepted or committed here.
-    pub(crate) fn announce(&self, at: Place, held: &Entry, progress: Progress) -> Option<Message>
+    pub(crate) fn announce(
+        &self,
+        at: Place,
+        held: &Entry,
+        progress: Option<Progress>,
+    ) -> Option<Message>
         ensures { result ≡ announced self.now.seat at.log at.entry held.now progress }
     {
-        match progress {
-            Progress::Waits => None,
-            Progress::Accepts => Some(self.accept(at, held)),
-            Progress::Commits => Some(self.commit(Destination::All, at, held)),
-        }
+        Some(match progress? {
+            Progress::Accepts => self.accept(at, held),
+            Progress::Commits => self.commit(Destination::All, at, held),
+        })
     }
 }

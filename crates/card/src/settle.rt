@@ -24,6 +24,6 @@ impl Replica {
         }
         let held = held.settle(self.n, self.seat);
         self.change(at, held);
-        Ok(self.announce(at, &held, Progress::Accepts))
+        Ok(self.announce(at, &held, Some(Progress::Accepts)))
     }
 }

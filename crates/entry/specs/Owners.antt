@@ -7,7 +7,7 @@ use Rattle.entry.specs.declared.entry.Entry.{Entry}
 use Rattle.entry.specs.declared.entry.State.{State}
 use Rattle.entry.specs.declared.entry.State.TheVariants.{Empty, Answered, Accepted, Committed}
 use Rattle.entry.specs.declared.entry.Progress.{Progress}
-use Rattle.entry.specs.declared.entry.Progress.TheVariants.{Waits, Accepts, Commits}
+use Rattle.entry.specs.declared.entry.Progress.TheVariants.{Accepts, Commits}
 use Rattle.entry.specs.Quorums.{majority_of, fast_quorum_of}
 use Rattle.entry.specs.Answers.{is_vote, is_reply, is_answer, settled}
 use Rattle.entry.specs.Entries.{entry_of, answering, accepting, committing}
@@ -52,18 +52,18 @@ abbrev pub has_two_replies : Entry → Bool
 has_two_replies e = nat_le 2 (count_by is_reply e.tally.answers)
 
 -- a fast quorum commits what was proposed; two replies among f + 1 answers settle
-unfoldable pub decided : ℕ → ℕ → Entry → Entry × Progress
+unfoldable pub decided : ℕ → ℕ → Entry → Entry × Option Progress
 decided n seat e =
     cond (has_fast_quorum n e)
-    (committing e e.value e.dependency, Commits)
-    (cond (has_two_replies e && can_settle n e) (settling n seat e, Accepts) (e, Waits))
+    (committing e e.value e.dependency, Some Commits)
+    (cond (has_two_replies e && can_settle n e) (settling n seat e, Some Accepts) (e, None))
 
 -- another seat's answer: the first from each seat, while answers count
-abbrev pub hearing : ℕ → ℕ → Entry → ℕ → Answer → Entry × Progress
+abbrev pub hearing : ℕ → ℕ → Entry → ℕ → Answer → Entry × Option Progress
 hearing n seat e from a =
     cond (counts_answers e && (nat_le from 6 && not (is_answer (slice_index_or e.tally.answers from None))))
     (decided n seat (with_answers e (slice_set e.tally.answers from (Some a))))
-    (e, Waits)
+    (e, None)
 
 abbrev pub is_accepted : State → Bool
 is_accepted Empty = false
@@ -72,14 +72,14 @@ is_accepted Accepted = true
 is_accepted Committed = false
 
 -- one seat more has accepted what the owner settled on: at f + 1 it is committed
-abbrev pub accepted_by : ℕ → Entry → Entry × Progress
+abbrev pub accepted_by : ℕ → Entry → Entry × Option Progress
 accepted_by n e =
     cond (nat_le (majority_of n) (count_by (λ a. a) e.tally.accepts))
-    (committing e e.value e.dependency, Commits)
-    (e, Waits)
+    (committing e e.value e.dependency, Some Commits)
+    (e, None)
 
-abbrev pub acknowledging : ℕ → Entry → ℕ → Entry × Progress
+abbrev pub acknowledging : ℕ → Entry → ℕ → Entry × Option Progress
 acknowledging n e from =
     cond (is_accepted e.state && e.promised == 0)
     (accepted_by n (with_accepts e (slice_set e.tally.accepts from true)))
-    (e, Waits)
+    (e, None)

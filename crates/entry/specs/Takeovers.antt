@@ -2,7 +2,7 @@
 use Rattle.std.specs.Prelude.{ℕ, Bool, true, false, cond, not, ◌&&◌, ◌||◌, List, replicate, Some, None, Option, ◌==◌, count_by, nat_le, slice_index_or, slice_set}
 use Rattle.entry.specs.declared.entry.Entry.{Entry}
 use Rattle.entry.specs.declared.entry.Progress.{Progress}
-use Rattle.entry.specs.declared.entry.Progress.TheVariants.{Waits, Accepts, Commits}
+use Rattle.entry.specs.declared.entry.Progress.TheVariants.{Accepts, Commits}
 use Rattle.entry.specs.declared.reports.Reported.{Reported}
 use Rattle.entry.specs.declared.takeover.Takeover.{Takeover}
 use Rattle.entry.specs.Quorums.{majority_of}
@@ -24,33 +24,33 @@ is_live t log i b e =
     (t.log == log) && (t.entry == i && (t.ballot == b && (e.promised == b && not (is_committed e.state))))
 
 -- at f + 1 reports the card in `seat` chooses, and accepts its choice at its ballot
-abbrev pub gathered : ℕ → ℕ → Takeover → Entry → Takeover × Entry × Progress
+abbrev pub gathered : ℕ → ℕ → Takeover → Entry → Takeover × Entry × Option Progress
 gathered n seat t e =
     cond (nat_le (majority_of n) (count_by is_reported t.reports)) (
       takeover_of t.log t.entry t.ballot t.reports true (slice_set t.accepts seat true),
       accepting e t.ballot (choice n t.log t.reports).0 (choice n t.log t.reports).1,
-      Accepts,
+      Some Accepts,
     )
-    (t, e, Waits)
+    (t, e, None)
 
 -- a report counts until the takeover has chosen, one from each seat
-abbrev pub reporting : ℕ → ℕ → Takeover → Entry → ℕ → Reported → Takeover × Entry × Progress
+abbrev pub reporting : ℕ → ℕ → Takeover → Entry → ℕ → Reported → Takeover × Entry × Option Progress
 reporting n seat t e from r =
     cond (t.chosen || (not (nat_le from 6) || is_reported (slice_index_or t.reports from None)))
-    (t, e, Waits)
+    (t, e, None)
     (gathered n seat
     (takeover_of t.log t.entry t.ballot (slice_set t.reports from (Some r)) t.chosen t.accepts) e)
 
 -- at f + 1 seats that accepted the choice, it is committed
-abbrev pub agreed : ℕ → Takeover → Entry → Takeover × Entry × Progress
+abbrev pub agreed : ℕ → Takeover → Entry → Takeover × Entry × Option Progress
 agreed n t e =
     cond (nat_le (majority_of n) (count_by (λ a. a) t.accepts))
-    (t, committing e e.value e.dependency, Commits)
-    (t, e, Waits)
+    (t, committing e e.value e.dependency, Some Commits)
+    (t, e, None)
 
 -- an AcceptOk counts once the takeover has chosen
-abbrev pub acknowledging : ℕ → Takeover → Entry → ℕ → Takeover × Entry × Progress
+abbrev pub acknowledging : ℕ → Takeover → Entry → ℕ → Takeover × Entry × Option Progress
 acknowledging n t e from =
     cond t.chosen
     (agreed n (takeover_of t.log t.entry t.ballot t.reports t.chosen (slice_set t.accepts from true)) e)
-    (t, e, Waits)
+    (t, e, None)

@@ -23,11 +23,10 @@ impl From<State> for u32 {
     }
 }
 
-// What counting an answer, a report or an AcceptOk led to: nothing yet, or that the entry is accepted here or committed, which
-// all are then told. No `Option`: a count has three ends, and the rules name each.
+// What counting an answer, a report or an AcceptOk led to, if it led to anything: the entry is accepted here or committed, which all are then
+// told.
 #[derive(Clone, Copy, PartialEq, Eq, Debug)]
 pub enum Progress {
-    Waits,
     Accepts,
     Commits,
 }

@@ -70,24 +70,33 @@ impl Entry {
     }
 
     // What the answers so far lead to.
-    fn decide(self, n: u32, seat: u32) -> (Entry, Progress)
+    fn decide(self, n: u32, seat: u32) -> (Entry, Option<Progress>)
         ensures { result ≡ decided n seat self }
     {
         if self.has_fast_quorum(n) {
-            (self.commit(self.value, self.dependency), Progress::Commits)
+            (
+                self.commit(self.value, self.dependency),
+                Some(Progress::Commits),
+            )
         } else if self.has_two_replies() && self.can_settle(n) {
-            (self.settle(n, seat), Progress::Accepts)
+            (self.settle(n, seat), Some(Progress::Accepts))
         } else {
-            (self, Progress::Waits)
+            (self, None)
         }
     }
 
     // Another seat's answer; only its first one counts.
-    pub fn hear_answer(self, n: u32, seat: u32, from: u32, answer: Answer) -> (Entry, Progress)
+    pub fn hear_answer(
+        self,
+        n: u32,
+        seat: u32,
+        from: u32,
+        answer: Answer,
+    ) -> (Entry, Option<Progress>)
         ensures { result ≡ hearing n seat self from answer }
     {
         if !self.counts_answers() || from >= 7 || self.tally.answers[from as usize].is_some() {
-            return (self, Progress::Waits);
+            return (self, None);
         }
         let mut next = self;
         next.tally.answers = with_seat(self.tally.answers, from, Some(answer));
@@ -95,18 +104,21 @@ impl Entry {
     }
 
     // Another seat accepted what the owner settled on. At a majority the entry is committed.
-    pub fn hear_accept(self, n: u32, from: u32) -> (Entry, Progress)
+    pub fn hear_accept(self, n: u32, from: u32) -> (Entry, Option<Progress>)
         ensures { result ≡ acknowledging n self from }
     {
         if self.state != State::Accepted || self.promised != 0 {
-            return (self, Progress::Waits);
+            return (self, None);
         }
         let mut next = self;
         next.tally.accepts = with_seat(self.tally.accepts, from, true);
         if !is_accepted(&next.tally.accepts, n) {
-            (next, Progress::Waits)
+            (next, None)
         } else {
-            (next.commit(self.value, self.dependency), Progress::Commits)
+            (
+                next.commit(self.value, self.dependency),
+                Some(Progress::Commits),
+            )
         }
     }
 }

@@ -54,17 +54,17 @@ impl Takeover {
         seat: u32,
         from: u32,
         reported: Reported,
-    ) -> (Takeover, Entry, Progress)
+    ) -> (Takeover, Entry, Option<Progress>)
         ensures { result ≡ reporting n seat self held from reported }
     {
         if self.chosen || from >= 7 || self.has_reported(from) {
-            return (self, held, Progress::Waits);
+            return (self, held, None);
         }
         let mut next = self;
         next.reports = with_seat(self.reports, from, Some(reported));
         let reports = next.reports.iter().filter(|reported| reported.is_some());
         if reports.count() < majority(n) {
-            return (next, held, Progress::Waits);
+            return (next, held, None);
         }
         let (value, dependency) = next.choose(n);
         next.chosen = true;
@@ -72,26 +72,26 @@ impl Takeover {
         (
             next,
             held.accept(self.ballot, value, dependency),
-            Progress::Accepts,
+            Some(Progress::Accepts),
         )
     }
 
     // Another seat accepted the choice. At a majority the entry is committed.
-    pub fn hear_accept(self, held: Entry, n: u32, from: u32) -> (Takeover, Entry, Progress)
+    pub fn hear_accept(self, held: Entry, n: u32, from: u32) -> (Takeover, Entry, Option<Progress>)
         ensures { result ≡ acknowledging n self held from }
     {
         if !self.chosen {
-            return (self, held, Progress::Waits);
+            return (self, held, None);
         }
         let mut next = self;
         next.accepts = with_seat(self.accepts, from, true);
         if !is_accepted(&next.accepts, n) {
-            return (next, held, Progress::Waits);
+            return (next, held, None);
         }
         (
             next,
             held.commit(held.value, held.dependency),
-            Progress::Commits,
+            Some(Progress::Commits),
         )
     }
 }

@@ -18,7 +18,7 @@ use Rattle.entry.specs.declared.answers.Answer.{Answer}
 use Rattle.entry.specs.declared.answers.Answer.TheVariants.{Vote, Reply}
 use Rattle.entry.specs.declared.entry.Entry.{Entry}
 use Rattle.entry.specs.declared.entry.Progress.{Progress}
-use Rattle.entry.specs.declared.entry.Progress.TheVariants.{Waits, Accepts, Commits}
+use Rattle.entry.specs.declared.entry.Progress.TheVariants.{Accepts, Commits}
 use Rattle.entry.specs.declared.entry.State.{State}
 use Rattle.entry.specs.declared.entry.State.TheVariants.{Empty, Answered, Accepted, Committed}
 use Rattle.entry.specs.Quorums.{majority_of, fast_quorum_of}
@@ -90,19 +90,19 @@ module _ (n f s : ℕ) (size : n ≡ 2 * f + 1) (few : n ≤ 7) (r : Replica) (s
   t = takeover_in r.takeover
 
   -- an entry that was counted on, and what all are told of it
-  abbrev pub told : Entry × Progress → Replica × Option Message
+  abbrev pub told : Entry × Option Progress → Replica × Option Message
   told x = (with_entry r log i x.0, announced r.seat log i x.0 x.1)
 
   -- the answers in the entry x were counted just now
   module _ (x : Entry) (stands_x : StandingEntry n x) (st : x.state ≡ Answered) (pr : x.promised ≡ 0)
       (act : Act n f number_of holder_of g i s S (cell_at r (other g)) (cell_of e) t (cell_of x) t none []) where
-    waits : Does n f s r stands S g log i named low high (told (x, Waits))
+    waits : Does n f s r stands S g log i named low high (told (x, None))
     waits = writes n f s r stands S g log i named low high x None none refl ([], once act)
 
     owned : s ≡ number_of g
     owned = mine ∙ sym named
 
-    commits_at_once : has_fast_quorum n x ≡ true → Does n f s r stands S g log i named low high (told (committing x x.value x.dependency, Commits))
+    commits_at_once : has_fast_quorum n x ≡ true → Does n f s r stands S g log i named low high (told (committing x x.value x.dependency, Some Commits))
     commits_at_once enough =
         let votes : count (λ c. agreed (answers_of x.tally.answers c)) n ≡ counted_in is_vote x.tally.answers =
         count_seated (λ a. agreed (answer_of a)) None n x.tally.answers few refl stands_x.answers
@@ -110,11 +110,11 @@ module _ (n f s : ℕ) (size : n ≡ 2 * f + 1) (few : n ≤ 7) (r : Replica) (s
         let quorum : fast_quorum_of n ≤ counted_in is_vote x.tally.answers = grind (arith, nat_tests) in
         let many : 2 * f ≤ count (λ c. agreed (answers_of x.tally.answers c)) n = omega arith in
         writes n f s r stands S g log i named low high (committing x x.value x.dependency)
-        (announced r.seat log i (committing x x.value x.dependency) Commits)
+        (announced r.seat log i (committing x x.value x.dependency) (Some Commits))
         (some (committed_as (content_of x.value x.dependency))) refl
         (_, counted (cell_of x) t act (commits_fast owned (ap stage_of st) pr many))
 
-    pub settles_now : s < n → can_settle n x ≡ true → Does n f s r stands S g log i named low high (told (settling n s x, Accepts))
+    pub settles_now : s < n → can_settle n x ≡ true → Does n f s r stands S g log i named low high (told (settling n s x, Some Accepts))
     settles_now seated_s enough =
         let ys : List (Option Answer) = x.tally.answers in
         let d : ℕ = settled ys n in
@@ -126,7 +126,7 @@ module _ (n f s : ℕ) (size : n ≡ 2 * f + 1) (few : n ≤ 7) (r : Replica) (s
         let seats : count (λ c. is_within d (get_or ys c None)) n ≡ counted_in (is_within d) ys =
         count_seated (is_within d) None n ys few refl stands_x.answers in
         let many : f < count (λ c. within x.dependency d (answers_of ys c)) n = omega arith in
-        writes n f s r stands S g log i named low high (settling n s x) (announced r.seat log i (settling n s x) Accepts)
+        writes n f s r stands S g log i named low high (settling n s x) (announced r.seat log i (settling n s x) (Some Accepts))
         (some (accept_at 0 (content_of x.value d))) refl (
           _,
           counted (cell_of x) t act (settles d (seats_of (set x.tally.accepts s true)) owned (ap stage_of st) pr many
@@ -180,7 +180,7 @@ module _ (n f s : ℕ) (size : n ≡ 2 * f + 1) (few : n ≤ 7) (r : Replica) (s
               | inl w ↦ rw (q, w) (
                   let many : majority_of n ≤ counted_in (λ b. b) (set xs from true) = grind (arith, nat_tests) in
                   writes n f s r stands S g log i named low high (committing x x.value x.dependency)
-                  (announced r.seat log i (committing x x.value x.dependency) Commits)
+                  (announced r.seat log i (committing x x.value x.dependency) (Some Commits))
                   (some (committed_as (content_of x.value x.dependency))) refl
                   (_, counted (cell_of x) t act (commits_first (ap stage_of st) pr (omega arith))))
               | inr w ↦ rw (q, w) (writes n f s r stands S g log i named low high x None none refl ([], once act))

@@ -25,7 +25,7 @@ use Rattle.entry.specs.Entries as entries
 use Rattle.entry.specs.Owners.{is_open, with_answers, with_accepts, proposing, settling, has_fast_quorum, has_two_replies, can_settle, decided, is_accepted, acknowledging, counts_answers, hearing}
 use Rattle.entry.specs.Quorums.{majority_of}
 use Rattle.entry.specs.declared.entry.Progress.{Progress}
-use Rattle.entry.specs.declared.entry.Progress.TheVariants.{Waits, Commits}
+use Rattle.entry.specs.declared.entry.Progress.TheVariants.{Commits}
 use Rattle.std.specs.List.{count_by as counted_in}
 use Rattle.entry.specs.Reports.{is_reported, choice}
 use Rattle.entry.specs.Takeovers.{takeover_of as takeover_from, begun, is_live, gathered, reporting, agreed}
@@ -319,7 +319,7 @@ begun_stands n log i b seat own inside few low valued =
     none c x q = let z = same_everywhere {X = Option Reported} 7 c None in grind arith
 
 -- what a message to the takeover u of the entry e leads to
-record BothStand (n : ℕ) (u : Takeover) (e : Entry) (x : Takeover × Entry × Progress) : Type 0 where
+record BothStand (n : ℕ) (u : Takeover) (e : Entry) (x : Takeover × Entry × Option Progress) : Type 0 where
   takeover : WholeTakeover n x.0
   entry : WholeEntry n x.1
   log_is : x.0.log ≡ u.log
@@ -329,7 +329,7 @@ record BothStand (n : ℕ) (u : Takeover) (e : Entry) (x : Takeover × Entry × 
 
 module _ (n : ℕ) (u : Takeover) (whole_u : WholeTakeover n u) (e : Entry) (whole_e : WholeEntry n e)
     (stored : u.chosen ≡ true → e.value ≡ value.Nothing → ⊥) where
-  stay_put : BothStand n u e (u, e, Waits)
+  stay_put : BothStand n u e (u, e, None)
   stay_put = record { takeover = whole_u; entry = whole_e; log_is = refl; place_is = refl; stored = stored; lasts = λ q. q }
 
   -- what a takeover chooses has a dependency that was reported, and a value
@@ -377,17 +377,17 @@ module _ (n : ℕ) (u : Takeover) (whole_u : WholeTakeover n u) (e : Entry) (who
       w : Takeover
       w = takeover_from u.log u.entry u.ballot u.reports u.chosen (set u.accepts from true)
 
-      with_entry_lem : (x : Entry) (p : Progress) → WholeEntry n x → x.value ≡ e.value → BothStand n u e (w, x, p)
+      with_entry_lem : (x : Entry) (p : Option Progress) → WholeEntry n x → x.value ≡ e.value → BothStand n u e (w, x, p)
       with_entry_lem x p st same =
           record { takeover = backed from seat u.chosen; entry = st; log_is = refl; place_is = refl; stored = λ t z. stored t (sym same ∙ z); lasts = λ z. sym same ∙ z }
 
-      by_count : u.chosen ≡ true → (b : Bool) → BothStand n u e (cond b (w, committing e e.value e.dependency, Commits) (w, e, Waits))
+      by_count : u.chosen ≡ true → (b : Bool) → BothStand n u e (cond b (w, committing e e.value e.dependency, Some Commits) (w, e, None))
       by_count t true =
-          with_entry_lem (committing e e.value e.dependency) Commits
+          with_entry_lem (committing e e.value e.dependency) (Some Commits)
           (committing_stands n e whole_e e.value e.dependency whole_e.stands.dependency (stored t)) refl
-      by_count t false = with_entry_lem e Waits whole_e refl
+      by_count t false = with_entry_lem e None whole_e refl
 
-      by_chosen : (b : Bool) → u.chosen ≡ b → BothStand n u e (cond b (agreed n w e) (u, e, Waits))
+      by_chosen : (b : Bool) → u.chosen ≡ b → BothStand n u e (cond b (agreed n w e) (u, e, None))
       by_chosen true t = by_count t (leb (majority_of n) (counted_in (λ a. a) (set u.accepts from true)))
       by_chosen false t = stay_put
 
@@ -421,7 +421,7 @@ module _ (r : Replica) (few : r.n ≤ 7) (some : 2 ≤ majority_of r.n) (seat_s 
     whole_u : WholeTakeover r.n u
     whole_u = record { stands = subst (StandingMaybe r.n) mine whole.stands.takeover; valued = whole.valued.reports u mine }
 
-    take_both : (x : Takeover × Entry × Progress) → BothStand r.n u e x
+    take_both : (x : Takeover × Entry × Option Progress) → BothStand r.n u e x
         → Whole r.n r.seat (with_takeover (with_entry r m.log m.entry x.1) (Some x.0))
     take_both x b =
         let q : Replica = with_entry r m.log m.entry x.1 in

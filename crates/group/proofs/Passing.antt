@@ -50,7 +50,7 @@ module _ (r : Replica) where
     pub place : (log ≤ 1) × (1 ≤ i) × (i ≤ 128)
     pub counts : (eqb log r.seat && counts_answers (entry_at r log i)) ≡ true
     pub enough : can_settle r.n (entry_at r log i) ≡ true
-    pub is : (with_entry r log i (settling r.n r.seat (entry_at r log i)), announced r.seat log i (settling r.n r.seat (entry_at r log i)) Accepts) ≡ x
+    pub is : (with_entry r log i (settling r.n r.seat (entry_at r log i)), announced r.seat log i (settling r.n r.seat (entry_at r log i)) (Some Accepts)) ≡ x
 
   pub settled : (log i : ℕ) (x : Replica × Option Message) → settle r log i ≡ Ok x → Settled log i x
   settled log i x q =

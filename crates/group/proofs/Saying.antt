@@ -7,7 +7,7 @@ use Rattle.block.specs.declared.message.Message.{Message}
 use Rattle.entry.specs.declared.answers.Answer.{Answer}
 use Rattle.entry.specs.declared.entry.Entry.{Entry}
 use Rattle.entry.specs.declared.entry.Progress.{Progress}
-use Rattle.entry.specs.declared.entry.Progress.TheVariants.{Waits, Accepts, Commits}
+use Rattle.entry.specs.declared.entry.Progress.TheVariants.{Accepts, Commits}
 use Rattle.entry.specs.declared.entry.State.{State}
 use Rattle.entry.specs.declared.entry.State.TheVariants.{Empty, Answered, Accepted, Committed}
 use Rattle.entry.specs.declared.takeover.Takeover.{Takeover}
@@ -43,10 +43,10 @@ module _ (r : Replica) (log i : ℕ) where
   Told (Err refused) = Unit {0}
 
   -- what all are told
-  pub announced_said : (x : Entry) (p : Progress) → Said (announced r.seat log i x p)
-  announced_said x Waits = tt
-  announced_said x Accepts = record { from = refl; log = refl; place = refl; no_proposal = λ k. grind arith }
-  announced_said x Commits = record { from = refl; log = refl; place = refl; no_proposal = λ k. grind arith }
+  pub announced_said : (x : Entry) (p : Option Progress) → Said (announced r.seat log i x p)
+  announced_said x None = tt
+  announced_said x (Some Accepts) = record { from = refl; log = refl; place = refl; no_proposal = λ k. grind arith }
+  announced_said x (Some Commits) = record { from = refl; log = refl; place = refl; no_proposal = λ k. grind arith }
 
   answer_said : (to : ℕ) (x : Entry) → Said (Some (fast_answer r.seat to log i x))
   answer_said to x = elim (cases_Bool x.vote) [
@@ -55,7 +55,7 @@ module _ (r : Replica) (log i : ℕ) where
   ]
 
   pub settle_said : (x : Replica × Option Message) → settle r log i ≡ Ok x → Said x.1
-  settle_said x q = let w = settled r log i x q in subst (λ x. Said x.1) w.is (announced_said (settling r.n r.seat (entry_at r log i)) Accepts)
+  settle_said x q = let w = settled r log i x q in subst (λ x. Said x.1) w.is (announced_said (settling r.n r.seat (entry_at r log i)) (Some Accepts))
 
   pub takeover_said : (x : Replica × Option Message) → takeover r log i ≡ Ok x → Said x.1
   takeover_said x q =

@@ -17,7 +17,7 @@ use Rattle.column.specs.Moves.{votes_in, NoneHeld, Picks, Picks.picks_held, Pick
 use Rattle.std.specs.List.{count_by as counted_in}
 use Rattle.entry.specs.declared.entry.Entry.{Entry}
 use Rattle.entry.specs.declared.entry.Progress.{Progress}
-use Rattle.entry.specs.declared.entry.Progress.TheVariants.{Waits, Accepts, Commits}
+use Rattle.entry.specs.declared.entry.Progress.TheVariants.{Accepts, Commits}
 use Rattle.entry.specs.declared.entry.State.{State}
 use Rattle.entry.specs.declared.entry.State.TheVariants.{Empty, Answered, Accepted, Committed}
 use Rattle.entry.specs.declared.reports.Reported.{Reported}
@@ -140,7 +140,7 @@ module _ (n f s : ℕ) (size : n ≡ 2 * f + 1) (some_fail : 0 < f) (few : n ≤
         uncommitted = d.1;
       }
 
-  abbrev pub took : Takeover × Entry × Progress → Replica × Option Message
+  abbrev pub took : Takeover × Entry × Option Progress → Replica × Option Message
   took x = (with_takeover (with_entry r log i x.1) (Some x.0), announced r.seat log i x.1 x.2)
 
   here : takeover_in r.takeover ≡ some (takeover_of u)
@@ -152,7 +152,7 @@ module _ (n f s : ℕ) (size : n ≡ 2 * f + 1) (some_fail : 0 < f) (few : n ≤
   open_yet : stage_of e.state ≡ committed → ⊥
   open_yet c = not_committed e.state lives.uncommitted (committed_only e.state c)
 
-  idle_turn : Does n f s r stands S g log i named low high (took (u, e, Waits))
+  idle_turn : Does n f s r stands S g log i named low high (took (u, e, None))
   idle_turn =
       writes_both n f s r stands S g log i named low high e u None none refl
       (subst (λ w. Turned n f s r stands S g log i named low high (cell_of e) (cell_of e) w none) here ([], once rests))
@@ -170,13 +170,13 @@ module _ (n f s : ℕ) (size : n ≡ 2 * f + 1) (some_fail : 0 < f) (few : n ≤
       let seats : count (seats_of (set xs from true)) n ≡ counted_in (λ b. b) (set xs from true) =
       count_seated (λ b. b) false n (set xs from true) few refl (seated_more n from false true xs seat stands_u.accepts) in
       let by_count : u.chosen ≡ true → (b : Bool) → leb (majority_of n) (counted_in (λ b. b) (set xs from true)) ≡ b
-      → Does n f s r stands S g log i named low high (took (cond b (w, committing e e.value e.dependency, Commits) (w, e, Waits))) =
+      → Does n f s r stands S g log i named low high (took (cond b (w, committing e e.value e.dependency, Some Commits) (w, e, None))) =
       λ q b. elim b as (λ b. leb (majority_of n) (counted_in (λ b. b) (set xs from true)) ≡ b
-      → Does n f s r stands S g log i named low high (took (cond b (w, committing e e.value e.dependency, Commits) (w, e, Waits)))) [
+      → Does n f s r stands S g log i named low high (took (cond b (w, committing e e.value e.dependency, Some Commits) (w, e, None)))) [
         | true ↦ λ z.
             let many : majority_of n ≤ counted_in (λ b. b) (set xs from true) = grind (arith, nat_tests) in
             writes_both n f s r stands S g log i named low high (committing e e.value e.dependency) w
-            (announced r.seat log i (committing e e.value e.dependency) Commits)
+            (announced r.seat log i (committing e e.value e.dependency) (Some Commits))
             (some (committed_as (content_of e.value e.dependency))) refl (
               _,
               counted (cell_of e) (some (takeover_of w)) act
@@ -184,8 +184,8 @@ module _ (n f s : ℕ) (size : n ≡ 2 * f + 1) (some_fail : 0 < f) (few : n ≤
             )
         | false ↦ λ z. writes_both n f s r stands S g log i named low high e w None none refl ([], once act)
       ] in
-      let by_chosen : (b : Bool) → u.chosen ≡ b → Does n f s r stands S g log i named low high (took (cond b (agreed n w e) (u, e, Waits))) =
-      λ b. elim b as (λ b. u.chosen ≡ b → Does n f s r stands S g log i named low high (took (cond b (agreed n w e) (u, e, Waits)))) [
+      let by_chosen : (b : Bool) → u.chosen ≡ b → Does n f s r stands S g log i named low high (took (cond b (agreed n w e) (u, e, None))) =
+      λ b. elim b as (λ b. u.chosen ≡ b → Does n f s r stands S g log i named low high (took (cond b (agreed n w e) (u, e, None)))) [
         | true ↦ λ q. by_count q (leb (majority_of n) (counted_in (λ b. b) (set xs from true))) refl
         | false ↦ λ q. idle_turn
       ] in
@@ -220,7 +220,7 @@ module _ (n f s : ℕ) (size : n ≡ 2 * f + 1) (some_fail : 0 < f) (few : n ≤
                   let c : Value × ℕ = choice n u.log ys in
                   let w : Takeover = takeover_from u.log u.entry u.ballot ys true (set u.accepts s true) in
                   writes_both n f s r stands S g log i named low high (accepting e u.ballot c.0 c.1) w
-                  (announced r.seat log i (accepting e u.ballot c.0 c.1) Accepts)
+                  (announced r.seat log i (accepting e u.ballot c.0 c.1) (Some Accepts))
                   (some (accept_at u.ballot (content_of c.0 c.1))) refl (
                     _,
                     counted (cell_of e) (some (takeover_of v)) act
