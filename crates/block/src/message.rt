@@ -109,7 +109,7 @@ impl Value {
         }
     }
 
-    // By the numbers above.
+    // By the numbers above. No `TryFrom`: its error would never come, for a reader has checked the ranges before.
     pub(crate) fn of_words(kind: u32, command: Command) -> Value
         ensures { result ≡ value_of kind command }
     {
@@ -152,7 +152,7 @@ impl Report {
         }
     }
 
-    // By the numbers above.
+    // By the numbers above. No `TryFrom`: its error would never come, for a reader has checked the ranges before.
     pub(crate) fn of_words(report: u32, accept_ballot: u32) -> Report
         ensures { result ≡ report_of report accept_ballot }
     {

@@ -23,7 +23,8 @@ pub(crate) fn in_range(place: usize, word: u32) -> bool
     }
 }
 
-// Refuses the lowest word that is out of range. A loop of its own beside the one in fits.rt: a word alone is judged, and by another fault.
+// Refuses the lowest word that is out of range. A loop with
+// `return`, as the one in fits.rt, and beside it: here a word is judged alone, and by another fault.
 pub(crate) fn check_ranges(words: &[u32; 15]) -> Result<(), Fault>
     ensures { result ≡ unless_fault (range_fault words.now) tt }
 {

@@ -19,8 +19,8 @@ pub enum Answer {
     NoSuchSeat,
 }
 
-// What stands in a card's list: a command that ran, and the pair that the machine answered, the outcome and the value before. One answer of
-// run has the same three, by their names.
+// What stands in a card's list: a command that ran, and the pair that the machine answered, the outcome and the value before. An answer of
+// run has the same three as fields, since it has no list.
 #[derive(Clone, Copy, PartialEq, Eq, Debug)]
 pub struct Listed {
     pub command: Command,

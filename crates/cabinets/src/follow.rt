@@ -37,6 +37,7 @@ impl<A: Plain, B: Plain> Cabinet<A, B> {
         self.sent.reserve(calls.len())?;
         self.proposed.reserve(calls.len())?;
         self.ran.reserve(calls.len())?;
+        // no `map` with `collect`: all room is taken before the first call, so that none is made where there is too little memory
         for call in calls {
             answers.push_reserved(self.call(*call));
         }

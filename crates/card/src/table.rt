@@ -27,7 +27,7 @@ impl Replica {
         self.takeover = Some(takeover);
     }
 
-    // The highest entry held of a log, 0 for none.
+    // The highest entry held of a log, 0 for none, as a dependency is. This and the next are two rules, and differ in the test of each.
     pub(crate) fn highest_held(&self, log: u32) -> u32
         requires { log ≤ 1 }
         ensures value { result ≡ highest_held self.now log }

@@ -30,9 +30,7 @@ impl Replica {
         if self.is_nothing(at) {
             return Err(Refusal::NothingThere);
         }
-        let Some(ballot) = next_ballot(self.seat, held.promised) else {
-            return Err(Refusal::NoBallotLeft);
-        };
+        let ballot = next_ballot(self.seat, held.promised).ok_or(Refusal::NoBallotLeft)?;
         self.change(at, held.promise(ballot));
         self.set_takeover(Takeover::begin(log, entry, ballot, self.seat, held.report()));
         Ok(Some(self.prepare(at, ballot)))

@@ -48,7 +48,7 @@ pub struct Entry {
 }
 
 // A value and its dependency stay two parameters: an entry, a message and a report have them as two fields, as the block has them in two
-// words. Empty entries come of `empty` and not of `Default`, for the protocol names them so.
+// words. Empty entries come of `empty` and not of `Default`, since what is empty is a rule.
 impl Entry {
     pub fn empty() -> Entry
         ensures { result ≡ empty }

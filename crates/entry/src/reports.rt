@@ -89,7 +89,7 @@ impl Takeover {
         self.reports.iter().position(|reported| is_vote(reported))
     }
 
-    // The report of the lowest seat that voted.
+    // The report of the lowest seat that voted. By the seat and not by `find`, since a seat is what the rule names.
     fn first_vote(&self) -> Option<Reported>
         ensures { result ≡ first_vote self.now.reports }
     {

@@ -19,7 +19,7 @@ pub struct Takeover {
 }
 
 impl Takeover {
-    // A takeover by `seat`, with that card's own report.
+    // A takeover by `seat`, with that card's own report. Log and entry are its own two fields.
     pub fn begin(log: u32, entry: u32, ballot: u32, seat: u32, own: Reported) -> Takeover
         ensures { result ≡ begun log entry ballot seat own }
     {

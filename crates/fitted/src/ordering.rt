@@ -14,6 +14,7 @@ use command::Command;
 use entry::Entry;
 use machine::Machine;
 
+// Log and entry are two numbers on these calls, since every two are answered.
 impl<M: Machine> Card<M> {
     pub fn look_up(&self, log: u32, entry: u32) -> Result<Entry, Refusal>
         ensures { result ≡ looked_up self.now.replica log entry }

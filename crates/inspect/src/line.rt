@@ -10,7 +10,7 @@ use block::{Fault, Message, read_block};
 use std::alloc::{AllocError, Global};
 use std::fmt;
 
-// The name of a word of a block, by the number that a fault gives. Word 15 is what stands after the words.
+// The name of a word of a block, by the number that a fault gives; no `Display`, since a word is a number and no type. Word 15 is what stands after the words.
 fn word_name(word: usize) -> &'static str
     ensures { result.now ≡ word_name word }
 {

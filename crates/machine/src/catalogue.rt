@@ -36,6 +36,7 @@ impl Cell for Array {
 pub type TableCatalogue = Cells<Array, BAYS>;
 
 impl TableCatalogue {
+    // A function of its own, as the pool's is: each promises the rule of its kind.
     pub fn new() -> TableCatalogue
         ensures first { catalogue.First (⟦<TableCatalogue as Machine>⟧.means result) }
         ensures named { OneRule ⟦<TableCatalogue as Machine>⟧.rule catalogue }

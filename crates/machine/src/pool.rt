@@ -38,6 +38,7 @@ impl Cell for Count {
 pub type SparePool = Cells<Count, CLASSES>;
 
 impl SparePool {
+    // A function of its own, as the catalogue's is: each promises the rule of its kind.
     pub fn new() -> SparePool
         ensures first { pool.First (⟦<SparePool as Machine>⟧.means result) }
         ensures named { OneRule ⟦<SparePool as Machine>⟧.rule pool }
