@@ -1,16 +1,16 @@
 // The examples of the machines: each command, with the outcome's number and the value before.
-use crate::score::Score;
+use crate::trial::Trial;
 use command::{Command, Identity};
-use machine::{ListCatalogue, Machine, Once, Outcome, SparePool, TableCatalogue};
+use machine::{ListCatalogue, Machine, Once, SparePool, TableCatalogue};
 use std::io;
 
-// A command as its three words, and the pair that answers it.
+// A command as its three words, and the pair that answers it. The outcome stands as its number, a value from outside, which the conversion under test does not compute.
 #[derive(Clone, Copy)]
 struct Example {
     operation: u32,
     bay: u32,
     amount: u32,
-    outcome: Outcome,
+    outcome: u8,
     before: u32,
 }
 
@@ -19,77 +19,77 @@ const CATALOGUE: [Example; 11] = [
         operation: 2,
         bay: 3,
         amount: 9,
-        outcome: Outcome::Done,
+        outcome: 0,
         before: 0,
     },
     Example {
         operation: 2,
         bay: 3,
         amount: 9,
-        outcome: Outcome::Refused,
+        outcome: 1,
         before: 9,
     },
     Example {
         operation: 2,
         bay: 3,
         amount: 0,
-        outcome: Outcome::NoAmount,
+        outcome: 2,
         before: 9,
     },
     Example {
         operation: 3,
         bay: 3,
         amount: 4,
-        outcome: Outcome::Refused,
+        outcome: 1,
         before: 9,
     },
     Example {
         operation: 1,
         bay: 3,
         amount: 7,
-        outcome: Outcome::Done,
+        outcome: 0,
         before: 9,
     },
     Example {
         operation: 3,
         bay: 3,
         amount: 9,
-        outcome: Outcome::Done,
+        outcome: 0,
         before: 9,
     },
     Example {
         operation: 1,
         bay: 63,
         amount: 0,
-        outcome: Outcome::Done,
+        outcome: 0,
         before: 0,
     },
     Example {
         operation: 1,
         bay: 64,
         amount: 0,
-        outcome: Outcome::Unknown,
+        outcome: 3,
         before: 0,
     },
     Example {
         operation: 2,
         bay: 64,
         amount: 0,
-        outcome: Outcome::Unknown,
+        outcome: 3,
         before: 0,
     },
     Example {
         operation: 0,
         bay: 3,
         amount: 9,
-        outcome: Outcome::Unknown,
+        outcome: 3,
         before: 0,
     },
     Example {
         operation: 4,
         bay: 3,
         amount: 9,
-        outcome: Outcome::Unknown,
+        outcome: 3,
         before: 0,
     },
 ];
@@ -99,63 +99,63 @@ const POOL: [Example; 9] = [
         operation: 3,
         bay: 0,
         amount: 1,
-        outcome: Outcome::Refused,
+        outcome: 1,
         before: 0,
     },
     Example {
         operation: 2,
         bay: 0,
         amount: 65_536,
-        outcome: Outcome::Refused,
+        outcome: 1,
         before: 0,
     },
     Example {
         operation: 2,
         bay: 0,
         amount: 65_535,
-        outcome: Outcome::Done,
+        outcome: 0,
         before: 0,
     },
     Example {
         operation: 2,
         bay: 0,
         amount: 1,
-        outcome: Outcome::Refused,
+        outcome: 1,
         before: 65_535,
     },
     Example {
         operation: 3,
         bay: 0,
         amount: 65_536,
-        outcome: Outcome::Refused,
+        outcome: 1,
         before: 65_535,
     },
     Example {
         operation: 3,
         bay: 0,
         amount: 65_535,
-        outcome: Outcome::Done,
+        outcome: 0,
         before: 65_535,
     },
     Example {
         operation: 1,
         bay: 0,
         amount: 5,
-        outcome: Outcome::Done,
+        outcome: 0,
         before: 0,
     },
     Example {
         operation: 1,
         bay: 15,
         amount: 0,
-        outcome: Outcome::Done,
+        outcome: 0,
         before: 0,
     },
     Example {
         operation: 1,
         bay: 16,
         amount: 0,
-        outcome: Outcome::Unknown,
+        outcome: 3,
         before: 0,
     },
 ];
@@ -169,99 +169,63 @@ fn numbered(number: u32, e: Example) -> Command {
     }
 }
 
-fn try_one<M: Machine>(
-    rt: &HostRuntime,
-    score: &mut Score,
-    machine: &mut M,
-    number: u32,
-    e: Example,
-) -> io::Result<()> {
-    let Example {
-        operation,
-        bay,
-        amount,
-        outcome,
-        before,
-    } = e;
-    let (came, value) = machine.apply(numbered(number, e));
-    score.note(came == outcome && value == before);
-    let (outcome, came) = (u8::from(outcome), u8::from(came));
-    println!(rt;
-        "  operation {operation} bay {bay} amount {amount}: expected ({outcome},{before}), came ({came},{value})"
-    )
-}
-
-fn try_all<M: Machine>(
-    rt: &HostRuntime,
-    score: &mut Score,
-    machine: &mut M,
-    examples: &[Example],
-) -> io::Result<()> {
-    for e in examples {
-        try_one(rt, score, machine, 1, *e)?;
+impl Trial<'_> {
+    fn try_one<M: Machine>(&mut self, machine: &mut M, number: u32, e: Example) -> io::Result<()> {
+        let Example {
+            operation,
+            bay,
+            amount,
+            outcome,
+            before,
+        } = e;
+        let (came, value) = machine.apply(numbered(number, e));
+        let came = u8::from(came);
+        self.score.note(came == outcome && value == before);
+        println!(self.rt;
+            "  operation {operation} bay {bay} amount {amount}: expected ({outcome},{before}), came ({came},{value})"
+        )
     }
-    Ok(())
-}
 
-// Both makes of the catalogue answer alike.
-pub fn catalogues(rt: &HostRuntime, score: &mut Score) -> io::Result<()> {
-    println!(rt; "drive catalogue, by a table")?;
-    try_all(rt, score, &mut TableCatalogue::new(), &CATALOGUE)?;
-    println!(rt; "drive catalogue, by a list")?;
-    let mut list = ListCatalogue::new(rt.alloc())?;
-    try_all(rt, score, &mut list, &CATALOGUE)
-}
-
-// The pool at both ends of its range.
-pub fn pool(rt: &HostRuntime, score: &mut Score) -> io::Result<()> {
-    println!(rt; "spare pool")?;
-    try_all(rt, score, &mut SparePool::new(), &POOL)
-}
-
-// A spare more with each new identity, up to the last that there is a place for and beyond.
-pub fn once(rt: &HostRuntime, score: &mut Score) -> io::Result<()> {
-    println!(rt; "once over a spare pool that 254 identities have reached")?;
-    let mut machine = Once::new(rt.alloc(), SparePool::new())?;
-    let add = Example {
-        operation: 2,
-        bay: 0,
-        amount: 1,
-        outcome: Outcome::Done,
-        before: 0,
-    };
-    for number in 1..255 {
-        machine.apply(numbered(number, add));
+    fn try_all<M: Machine>(&mut self, machine: &mut M, examples: &[Example]) -> io::Result<()> {
+        for e in examples {
+            self.try_one(machine, 1, *e)?;
+        }
+        Ok(())
     }
-    try_one(rt, score, &mut machine, 255, Example { before: 254, ..add })?;
-    try_one(rt, score, &mut machine, 256, Example { before: 255, ..add })?;
-    try_one(
-        rt,
-        score,
-        &mut machine,
-        257,
-        Example {
-            outcome: Outcome::NoPlace,
-            ..add
-        },
-    )?;
-    try_one(
-        rt,
-        score,
-        &mut machine,
-        256,
-        Example {
-            outcome: Outcome::Repeat,
-            ..add
-        },
-    )?;
-    try_one(
-        rt,
-        score,
-        &mut machine,
-        1,
-        Example {
-            outcome: Outcome::Repeat,
-            ..add
-        },
-    )
+
+    // Both makes of the catalogue answer alike.
+    pub fn catalogues(&mut self) -> io::Result<()> {
+        println!(self.rt; "drive catalogue, by a table")?;
+        self.try_all(&mut TableCatalogue::new(), &CATALOGUE)?;
+        println!(self.rt; "drive catalogue, by a list")?;
+        let mut list = ListCatalogue::new(self.rt.alloc())?;
+        self.try_all(&mut list, &CATALOGUE)
+    }
+
+    // The pool at both ends of its range.
+    pub fn pool(&mut self) -> io::Result<()> {
+        println!(self.rt; "spare pool")?;
+        self.try_all(&mut SparePool::new(), &POOL)
+    }
+
+    // A spare more with each new identity, up to the last that there is a place for and beyond.
+    pub fn once(&mut self) -> io::Result<()> {
+        println!(self.rt; "once over a spare pool that 254 identities have reached")?;
+        let mut machine = Once::new(self.rt.alloc(), SparePool::new())?;
+        let add = Example {
+            operation: 2,
+            bay: 0,
+            amount: 1,
+            outcome: 0,
+            before: 0,
+        };
+        for number in 1..255 {
+            machine.apply(numbered(number, add));
+        }
+        self.try_one(&mut machine, 255, Example { before: 254, ..add })?;
+        self.try_one(&mut machine, 256, Example { before: 255, ..add })?;
+        self.try_one(&mut machine, 257, Example { outcome: 4, ..add })?;
+        self.try_one(&mut machine, 256, Example { outcome: 5, ..add })?;
+        self.try_one(&mut machine, 1, Example { outcome: 5, ..add })
+    }
 }

@@ -4,18 +4,23 @@
 mod cards;
 mod machines;
 mod score;
+mod trial;
 
 use score::Score;
 use std::io;
+use trial::Trial;
 
 fn run(rt: &HostRuntime) -> io::Result<()> {
-    let mut score = Score::default();
-    machines::catalogues(rt, &mut score)?;
-    machines::pool(rt, &mut score)?;
-    machines::once(rt, &mut score)?;
-    cards::proposals(rt, &mut score)?;
-    cards::seat_two(rt, &mut score)?;
-    println!(rt; "{score}")
+    let mut trial = Trial {
+        rt,
+        score: Score::default(),
+    };
+    trial.catalogues()?;
+    trial.pool()?;
+    trial.once()?;
+    trial.proposals()?;
+    trial.seat_two()?;
+    println!(rt; "{}", trial.score)
 }
 
 fn main(rt: HostRuntime) -> io::Result<()> {
