@@ -14,7 +14,7 @@ pub(crate) struct Place {
 }
 
 impl Place {
-    // The place that a caller names by its numbers.
+    // The place that a caller names by its numbers. Calls take those two and no place, since there is an answer for every two.
     pub(crate) fn of(log: u32, entry: u32) -> Result<Place, Refusal>
         ensures { MatchResult result (λ p. (is_placed log entry ≡ true) × (p.log ≡ log) × (p.entry ≡ entry)) (λ why. (is_placed log entry ≡ false) × (why ≡ NoSuchEntry)) }
     {

@@ -22,6 +22,7 @@ impl From<Refusal> for NotMade {
     }
 }
 
+// The library has two errors for the want of memory.
 impl From<AllocError> for NotMade {
     ghost from_gives = { λ _ why. why ≡ NoMemory };
 

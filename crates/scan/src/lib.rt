@@ -21,7 +21,7 @@ pub fn first<T, F: Fn(&T) -> bool>(items: &[T], start: usize, test: F) -> Option
     found
 }
 
-// The number of the last item that passes, counted from 1; 0 where none does.
+// The number of the last item that passes, counted from 1; 0 where none does, as a dependency on nothing is 0.
 pub fn highest<T, F: Fn(&T) -> bool>(items: &[T], test: F) -> usize
     requires { F.IsAlwaysCallable test }
     ensures value { (p : T → Bool) → IsTest (F.post test) p → result ≡ highest_of p items.now }
