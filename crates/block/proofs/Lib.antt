@@ -5,3 +5,4 @@ pub mod FromFn
 pub mod Blocks
 pub mod Trips
 pub mod Validity
+pub mod Tail

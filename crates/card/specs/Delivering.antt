@@ -58,7 +58,7 @@ counts r m p = stores r m.log m.entry p
 
 -- an answer to this card's own proposal
 unfoldable pub hears : Replica → Message → Entry → Answer → Turn
-hears r m e a = counts r m (hearing r.n r.seat e m.from a)
+hears r m e a = counts r m (hearing r.n r.seat e m.from (Some a))
 
 -- a takeover and its entry that were counted on
 abbrev pub takes : Replica → Message → Takeover × Entry × Option Progress → Turn

@@ -39,7 +39,7 @@ impl Replica {
     fn hear_answer(&mut self, d: &Delivered, held: Entry, answer: Answer) -> Option<Message>
         ensures { (self.new, result) ≡ hears self.old d.now.message held answer }
     {
-        let (held, progress) = held.hear_answer(self.n, self.seat, d.message.from, answer);
+        let (held, progress) = held.hear_answer(self.n, self.seat, d.message.from, Some(answer));
         self.store(d.place(), held, progress)
     }
 

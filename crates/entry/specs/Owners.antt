@@ -58,11 +58,11 @@ decided n seat e =
     (committing e e.value e.dependency, Some Commits)
     (cond (has_two_replies e && can_settle n e) (settling n seat e, Some Accepts) (e, None))
 
--- another seat's answer: the first from each seat, while answers count
-abbrev pub hearing : ℕ → ℕ → Entry → ℕ → Answer → Entry × Option Progress
+-- another seat's answer, or none of it: the first from each seat, while answers count
+abbrev pub hearing : ℕ → ℕ → Entry → ℕ → Option Answer → Entry × Option Progress
 hearing n seat e from a =
     cond (counts_answers e && (nat_le from 6 && not (is_answer (slice_index_or e.tally.answers from None))))
-    (decided n seat (with_answers e (slice_set e.tally.answers from (Some a))))
+    (decided n seat (with_answers e (slice_set e.tally.answers from a)))
     (e, None)
 
 abbrev pub is_accepted : State → Bool

@@ -85,13 +85,13 @@ impl Entry {
         }
     }
 
-    // Another seat's answer; only its first one counts.
+    // Another seat's answer, or that there was none; only its first one counts.
     pub fn hear_answer(
         self,
         n: u32,
         seat: u32,
         from: u32,
-        answer: Answer,
+        answer: Option<Answer>,
     ) -> (Entry, Option<Progress>)
         ensures { result ≡ hearing n seat self from answer }
     {
@@ -99,7 +99,7 @@ impl Entry {
             return (self, None);
         }
         let mut next = self;
-        next.tally.answers = with_seat(self.tally.answers, from, Some(answer));
+        next.tally.answers = with_seat(self.tally.answers, from, answer);
         next.decide(n, seat)
     }
 

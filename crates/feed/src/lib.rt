@@ -43,4 +43,16 @@ mod tests {
         assert_eq!(rt; next_block(&mut input, &mut block)?.len(), 0);
         Ok(())
     }
+
+    // What is answered is the bytes that came, and not what the buffer held before or holds behind them.
+    #[test]
+    fn what_came_is_answered(rt: HostRuntime) -> Result<(), Fail> {
+        let whole: &[u8] = &[7; 512];
+        let short: &[u8] = &[1, 2, 3];
+        let mut input = whole.chain(short);
+        let mut block = [0; 512];
+        assert_eq!(rt; next_block(&mut input, &mut block)?, whole);
+        assert_eq!(rt; next_block(&mut input, &mut block)?, short);
+        Ok(())
+    }
 }

@@ -149,7 +149,7 @@ module _ (n f s : ℕ) (size : n ≡ 2 * f + 1) (few : n ≤ 7) (r : Replica) (s
       → ((d : ℕ) → (Some a ≡ Some (Vote d)) ⊎ (Some a ≡ Some (Reply d)) → d ≤ 128)
       → ((d : ℕ) → Some a ≡ Some (Vote d) → d ≡ e.dependency)
       → Act n f number_of holder_of g i s S (cell_at r (other g)) (cell_of e) t (cell_of (with_answers e (set e.tally.answers from (Some a)))) t none []
-      → Does n f s r stands S g log i named low high (told (hearing n s e from a))
+      → Does n f s r stands S g log i named low high (told (hearing n s e from (Some a)))
   hears_answer from a seat_s seat stands_e fits own act =
       let test : Bool = counts_answers e && (leb from 6 && not (is_answer (get_or e.tally.answers from None))) in
       elim (cases_Bool test) [

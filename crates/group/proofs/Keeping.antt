@@ -452,7 +452,7 @@ module _ (r : Replica) (few : r.n ≤ 7) (some : 2 ≤ majority_of r.n) (seat_s 
       → e.state ≡ Answered → Keeps (hears r m e a)
   unfolding hears
   hearing_keeps a fits own q =
-      write (hearing r.n r.seat e m.from a).0
+      write (hearing r.n r.seat e m.from (Some a)).0
       (elim (cases_Bool (counts_answers e && (leb m.from 6 && not (is_answer (get_or e.tally.answers m.from None))))) [
         | inl w ↦ rw w (decided_stands r.n (with_answers e (set e.tally.answers m.from (Some a)))
             (record { stands = noted_stands_at r.n few e m.from (Some a) from_seat whole_e.stands q fits own; valued = whole_e.valued }) r.seat seat_s

@@ -88,7 +88,7 @@ module _ (r : Replica) (m : Message) where
   on_answer_said : (a : Answer) (st : State) → S (on_answer st a r m e)
   unfolding hears
   on_answer_said a Empty = tt
-  on_answer_said a Answered = announced_said r m.log m.entry (hearing r.n r.seat e m.from a).0 (hearing r.n r.seat e m.from a).1
+  on_answer_said a Answered = announced_said r m.log m.entry (hearing r.n r.seat e m.from (Some a)).0 (hearing r.n r.seat e m.from (Some a)).1
   on_answer_said a Accepted = tt
   on_answer_said a Committed = tt
 

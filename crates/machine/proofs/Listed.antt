@@ -143,33 +143,31 @@ found ps b ok =
     (λ (past : 64 ≤ b). holding_find ps b ∙ holding_past ps b ok past ∙ sym (get_or_past (tabled ps) b 0 (omega (arith, tabled_length ps))))
     (cases_lt b 64)
 
--- what is left where a bay is emptied, with room for one more
+-- what is left where a bay is emptied
 pub record Emptied (ps : List Assigned) (b : ℕ) : Type 0 where
   pub ok : listed (others b ps) ≡ true
   pub after : tabled (others b ps) ≡ set (tabled ps) b 0
-  pub room : length (others b ps) < 64
 
 pub emptied : (ps : List Assigned) (b : ℕ) → listed ps ≡ true → b < 64 → Emptied ps b
 emptied ps b ok low = record {
   ok = others_listed ps b ok;
   after = tabled_set ps (others b ps) b 0 low (others_same ps b) (others_other ps b);
-  room = room (others b ps) b (others_listed ps b ok) low (others_same ps b);
 }
 
--- what is left where a bay is filled after that
+-- a free bay that is filled, for which there was room
 pub record Filled (ps : List Assigned) (b v : ℕ) : Type 0 where
-  pub ok : listed (others b ps ++ (record { bay = b; array = v } ∷ [])) ≡ true
-  pub after : tabled (others b ps ++ (record { bay = b; array = v } ∷ [])) ≡ set (tabled ps) b v
+  pub ok : listed (ps ++ (record { bay = b; array = v } ∷ [])) ≡ true
+  pub after : tabled (ps ++ (record { bay = b; array = v } ∷ [])) ≡ set (tabled ps) b v
+  pub room : length ps < 64
 
-pub filled : (ps : List Assigned) (b v : ℕ) → listed ps ≡ true → b < 64 → (v ≡ 0 → ⊥) → Filled ps b v
-filled ps b v ok low some =
+pub filled : (ps : List Assigned) (b v : ℕ) → listed ps ≡ true → b < 64 → (v ≡ 0 → ⊥) → get_or (tabled ps) b 0 ≡ 0 → Filled ps b v
+filled ps b v ok low some free =
     let p : Assigned = record { bay = b; array = v } in
-    let left = others_listed ps b ok in
-    let none = others_same ps b in
+    let none : holding ps b ≡ 0 = sym (tabled_at ps b low) ∙ free in
     record {
-      ok = push_listed (others b ps) p left low (omega arith) none;
-      after = tabled_set ps (others b ps ++ (p ∷ [])) b v low (push_same (others b ps) p left none)
-          (λ k ne. push_other (others b ps) p k ne ∙ others_other ps b k ne);
+      ok = push_listed ps p ok low (omega arith) none;
+      after = tabled_set ps (ps ++ (p ∷ [])) b v low (push_same ps p ok none) (λ k ne. push_other ps p k ne);
+      room = room ps b ok low none;
     }
 
 pub tabled_first : tabled [] ≡ replicate 64 0

@@ -51,13 +51,15 @@ impl ListCatalogue {
         self.find(bay).map_or(0, |pair| pair.array)
     }
 
-    // Puts the array into a bay, or empties it with 0.
+    // Puts the array into a bay that holds none, or empties the bay with 0.
     fn set(&mut self, bay: u32, array: u32)
-        requires { bay < 64 }
+        requires low { bay < 64 }
+        requires free { 0 < array → slice_index (tabled self.old.pairs.items) bay ≡ 0 }
         ensures { tabled self.new.pairs.items ≡ slice_set (tabled self.old.pairs.items) bay array }
     {
-        self.pairs.retain(|pair| pair.bay != bay);
-        if array != 0 {
+        if array == 0 {
+            self.pairs.retain(|pair| pair.bay != bay);
+        } else {
             self.pairs.push_reserved(Assigned { bay, array });
         }
     }
